@@ -9,7 +9,7 @@ ghost use Rattle.pg_expr.specs.Contexts.{found_view, founds_view, pairs_view, gi
 ghost use Rattle.pg_meaning.specs.Expressions.{evaluate};
 ghost use Rattle.pg_meaning.specs.Parse.{expressions_of, operands_of, pairs_of, whens_of};
 ghost use Rattle.pg_rows.specs.Named.{row_of};
-ghost use Rattle.pg_syntax_tree.specs.View.{expression_view, pair_view, when_view, operand_view, test_view, tests_of, suffix_view, suffixes_of, names_view};
+ghost use Rattle.pg_syntax_tree.specs.View.{expression_view, pair_view, when_view, operand_view};
 ghost use Rattle.pg_value_core.specs.Given.{parameters_view};
 ghost use Rattle.pg_value_core.specs.Gives.{Gives};
 ghost use Rattle.pg_value_core.specs.View.{view};
@@ -24,14 +24,12 @@ use crate::operators::{
 };
 use crate::plain_operands::plain;
 use crate::prepared::{Form, Prepared};
-use crate::reads::{
-    any_column_property, column_property, index, labels, node_column_property, property,
-};
+use crate::reads::{column_property, index, labels, node_column_property, property};
 use crate::row_context::RowContext;
 use crate::scalar::{Scalar, copied, is_untold, text_copied};
 use crate::scalar_evaluation::scalar;
 use crate::scalar_trees::may_tell;
-use crate::value_ref::{ValueRef, null};
+use crate::value_ref::{ValueRef, lent_or_null, null};
 use pg_graph::Tables;
 use pg_meaning::{Fault, Operator};
 use pg_rows::Columns;
@@ -97,7 +95,7 @@ fn property_copied<T: Tables>(
         Some(Some(Value::Int(i))) => Ok(Value::Int(*i)),
         Some(Some(value)) => copied(context.alloc, value),
         Some(None) => Ok(Value::Null),
-        None => Ok(any_column_property(context, graph, name, key, near)?.take(context.alloc)?),
+        None => Ok(column_property(context, graph, name, key, near)?.take(context.alloc)?),
     }
 }
 
@@ -203,7 +201,12 @@ pub fn find_at<'a, T: Tables>(
 {
     match prepared.form {
         Form::Column(name, near) => column(context, name, near),
-        Form::Property(name, key, near) => column_property(context, graph, name, key, near),
+        Form::Property(name, key, near) => match node_column_property(
+            context, graph, name, key, near,
+        ) {
+            Some(held) => Ok(lent_or_null(held)),
+            None => column_property(context, graph, name, key, near),
+        },
         Form::Other(tree, tells) => find_other_at(context, graph, tree, tells),
     }
 }

@@ -118,29 +118,9 @@ pub(crate) fn node_column_property<'a, T: Tables>(
     }
 }
 
-/// `variable.key`, of a column that mostly stands at this place: the row's value is looked at where it stands.
-pub(crate) fn column_property<'a, T: Tables>(
-    context: &RowContext<'a>,
-    graph: &GraphView<'a, T>,
-    name: &Name,
-    key: &Name,
-    near: usize,
-) -> Result<ValueRef<'a>, Fault>
-    ensures ok { IfOk result
-        (λ f. given_property context.now graph.now (string_bytes name.now.text)
-        (string_bytes key.now.text) ≡ Ok (found_view f)) }
-    ensures err { IfErr result
-        (λ e. given_property context.now graph.now (string_bytes name.now.text)
-        (string_bytes key.now.text) ≡ Err e) }
-{
-    match node_column_property(context, graph, name, key, near) {
-        Some(held) => Ok(lent_or_null(held)),
-        None => any_column_property(context, graph, name, key, near),
-    }
-}
-
+/// `variable.key`, of a column that mostly stands at this place, whatever the row has there.
 #[inline(never)]
-pub(crate) fn any_column_property<'a, T: Tables>(
+pub(crate) fn column_property<'a, T: Tables>(
     context: &RowContext<'a>,
     graph: &GraphView<'a, T>,
     name: &Name,

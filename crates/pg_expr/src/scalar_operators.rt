@@ -152,7 +152,9 @@ pub(crate) fn compared<'a>(operator: Operator, v: Scalar<'_>, w: Scalar<'_>) -> 
     }
 }
 
-fn integer_compared<'a>(operator: Operator, x: i64, w: Scalar<'_>) -> Scalar<'a>
+/// One comparison with an integer at the left.
+#[inline(always)]
+pub(crate) fn integer_compared<'a>(operator: Operator, x: i64, w: Scalar<'_>) -> Scalar<'a>
     ensures { ThenTells (scalar_view w.entry) (scalar_view result)
         (λ y. truth_compared (integer x) ((operator, y) ∷ [])) }
 {
@@ -176,7 +178,9 @@ fn integers_compared(operator: Operator, x: i64, y: i64) -> Option<Tri>
     }
 }
 
-fn text_compared<'a>(operator: Operator, s: &String, w: Scalar<'_>) -> Scalar<'a>
+/// One comparison with a text at the left.
+#[inline(always)]
+pub(crate) fn text_compared<'a>(operator: Operator, s: &String, w: Scalar<'_>) -> Scalar<'a>
     ensures { ThenTells (scalar_view w.entry) (scalar_view result)
         (λ y. truth_compared (text (string_bytes s.now)) ((operator, y) ∷ [])) }
 {

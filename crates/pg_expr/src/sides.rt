@@ -5,7 +5,7 @@ ghost use Rattle.pg_expr.specs.Sides.{IsComparisonOf, IsSideOf, comparison_given
 ghost use Rattle.pg_meaning.specs.Answer.{◌>>=◌ as and_then};
 ghost use Rattle.pg_meaning.specs.Expressions.{property_of};
 ghost use Rattle.pg_meaning.specs.Tree.{parameter, variable};
-ghost use Rattle.pg_meaning.specs.Value.{Entries};
+ghost use Rattle.pg_meaning.specs.Value.{Entries, node};
 ghost use Rattle.pg_syntax_tree.specs.View.{expression_view, name_view};
 ghost use Rattle.pg_value_core.specs.Given.{parameters_view};
 ghost use Rattle.pg_value_core.specs.View.{view};
@@ -13,13 +13,13 @@ ghost use Rattle.pg_value_core.specs.View.{view};
 use crate::operators::begins_comparison;
 use crate::plain_operands::variable_and_key;
 use crate::scalar::{Scalar, literal, property_lent, scalar_of};
-use crate::scalar_operators::{compared, is_chosen};
+use crate::scalar_operators::{compared, integer_compared, is_chosen, text_compared};
 use pg_graph::Tables;
 use pg_meaning::Operator;
 use pg_rows::Columns;
 use pg_store::GraphView;
 use pg_syntax_tree::{Expression, Name};
-use pg_value_core::{Parameters, Value};
+use pg_value_core::{NodeId, Parameters, Value};
 
 /// One side of a comparison: a value that is the same at each row, what a column holds, or a property of that.
 #[derive(Clone, Copy)]
@@ -129,9 +129,84 @@ pub(crate) fn known_truth<'a, T: Tables>(
     ensures { IfSome result
         (λ b. comparison_given known.now (map view row.now) graph.now ≡ Ok b) }
 {
+    match property_held(known.left, row, graph) {
+        Some(Value::Int(x)) => {
+            is_chosen(integer_compared(known.operator, *x, side_told(known.right, row, graph)))
+        }
+        Some(Value::Text(text)) => {
+            is_chosen(text_compared(known.operator, text, side_told(known.right, row, graph)))
+        }
+        _ => sides_truth(known, row, graph),
+    }
+}
+
+/// The same of any sides.
+#[inline(never)]
+fn sides_truth<'a, T: Tables>(
+    known: &KnownComparison<'a>,
+    row: &'a [Value],
+    graph: &GraphView<'a, T>,
+) -> Option<bool>
+    ensures { IfSome result
+        (λ b. comparison_given known.now (map view row.now) graph.now ≡ Ok b) }
+{
     let left = side_told(known.left, row, graph);
     let right = side_told(known.right, row, graph);
     is_chosen(compared(known.operator, left, right))
+}
+
+/// What the node in a column has under a key, if anything, where the side is such a property. Most left sides are.
+fn property_held<'a, T: Tables>(
+    side: Side<'a>,
+    row: &'a [Value],
+    graph: &GraphView<'a, T>,
+) -> Option<&'a Value>
+    ensures { IfSome result
+        (λ v. side_given side.entry (map view row.now) graph.now ≡ Ok (view v.now)) }
+{
+    match side {
+        Side::Property(at, key) => held_at(row, at, key, graph),
+        _ => None,
+    }
+}
+
+fn held_at<'a, T: Tables>(
+    row: &'a [Value],
+    at: usize,
+    key: &str,
+    graph: &GraphView<'a, T>,
+) -> Option<&'a Value>
+    ensures { IfSome result (λ v. and_then (in_column (map view row.now) at)
+        (λ u. property_of graph.now u key.now) ≡ Ok (view v.now)) }
+{
+    if at < row.len() {
+        held_of(graph, &row[at], key)
+    } else {
+        None
+    }
+}
+
+fn held_of<'a, T: Tables>(
+    graph: &GraphView<'a, T>,
+    value: &'a Value,
+    key: &str,
+) -> Option<&'a Value>
+    ensures { IfSome result
+        (λ v. property_of graph.now (view value.now) key.now ≡ Ok (view v.now)) }
+{
+    match value {
+        Value::Node(id) => node_held(graph, *id, key),
+        _ => None,
+    }
+}
+
+fn node_held<'a, T: Tables>(graph: &GraphView<'a, T>, id: NodeId, key: &str) -> Option<&'a Value>
+    ensures { IfSome result
+        (λ v. property_of graph.now (node id.0) key.now ≡ Ok (view v.now)) }
+{
+    let node = graph.node(id)?;
+    let value = node.property(key)?;
+    Some(value)
 }
 
 pub(crate) fn side_told<'a, T: Tables>(

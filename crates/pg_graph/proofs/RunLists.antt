@@ -1,6 +1,8 @@
 -- What a change of one of several rising lists makes of all their numbers.
 use Rattle.std.proofs.Common.{◌≡◌, ◌==◌, ◌<◌, ◌≤◌, ◌-◌, ℕ, zero, suc, Bool, true, false, cond, List, [], ◌∷◌, ◌++◌, ◌||◌, length, take, drop, slice_set, slice_index_or, slice_get, Some, Err, Ordering, Less, Equal, Greater, arith, refl, sym, ap, subst, append_assoc, ◌∙◌}
+use Rattle.std.proofs.lemmas.Bool.Decides.{nat_tests}
 use Rattle.std.proofs.lemmas.List.{append-nil}
+use Rattle.std.proofs.lemmas.List.Folds.{list_any-append}
 use Rattle.std.proofs.lemmas.Option.{get_or_from_slice_get}
 use Rattle.std.specs.List.{AllByRecursion, HoldsAt, insert, remove, list_any}
 use Rattle.std.specs.List.Sorted.{IsPartitionPoint}
@@ -469,3 +471,26 @@ module _ (rs : List (List ℕ)) (i j : ℕ) (first second both : List ℕ) (next
     filled = subst (λ k. AllByRecursion (λ r. 0 < length r) (remove (slice_set rs i both) k)) (sym next)
         (filled_pair rs i both (subst (λ q. 0 < length q) (sym is) (some_front first second (run_at_has_some rs i first runs (omega arith) at))) runs.filled);
   }
+
+-- ---- an id that is found where it is guessed
+
+pub found_at : (id : ℕ) (xs : List ℕ) (i : ℕ) (d : ℕ) → i < length xs → slice_index_or xs i d ≡ id → has id xs ≡ true
+found_at id [] i d h is = absurd (omega arith)
+found_at id (x ∷ xs) zero d h is = rw (same x id is) refl
+  where
+    same : (x id : ℕ) → x ≡ id → (x == id) ≡ true
+    same x id e = grind (arith, nat_tests, e)
+found_at id (x ∷ xs) (suc i) d h is = or_true (x == id) (has id xs) (found_at id xs i d (omega arith) is)
+  where
+    or_true : (a b : Bool) → b ≡ true → (a || b) ≡ true
+    or_true true b h = refl
+    or_true false b h = h
+
+pub found_in_run : (id : ℕ) (rs : List (List ℕ)) (i : ℕ) (was : List ℕ) → i < length rs → was ≡ slice_index_or rs i was → has id was ≡ true → has id (flattened rs) ≡ true
+found_in_run id [] i was h at found = absurd (omega arith)
+found_in_run id (r ∷ rs) zero was h at found = list_any-append (λ n. n == id) r (flattened rs) ∙ ap (λ b. b || has id (flattened rs)) (ap (has id) (sym at) ∙ found)
+found_in_run id (r ∷ rs) (suc i) was h at found = list_any-append (λ n. n == id) r (flattened rs) ∙ back (has id r) (has id (flattened rs)) (found_in_run id rs i was (omega arith) at found)
+  where
+    back : (a b : Bool) → b ≡ true → (a || b) ≡ true
+    back true b h = refl
+    back false b h = h

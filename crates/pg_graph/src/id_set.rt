@@ -63,6 +63,24 @@ impl IdStorage {
         }
     }
 
+    fn surely_has(&self, id: u64) -> bool
+        ensures { result ≡ true → list_any (λ n. n == id) (ids_of self.now) ≡ true }
+    {
+        match self {
+            IdStorage::Nothing => false,
+            IdStorage::One(only) => *only == id,
+            IdStorage::More(runs) => runs::surely_has(runs.as_slice(), id),
+        }
+    }
+
+    fn seems_dense(&self) -> bool {
+        match self {
+            IdStorage::Nothing => false,
+            IdStorage::One(_) => true,
+            IdStorage::More(runs) => runs::seem_dense(runs.as_slice()),
+        }
+    }
+
     fn insert(&mut self, alloc: Global, id: u64) -> Result<bool, AllocError>
         requires { IsHeld self.old }
         ensures ok { OnOk result (ids_of self.new ≡ with_id id (ids_of self.old)) }
@@ -167,6 +185,18 @@ impl IdSet {
         ensures { result ≡ map.contains_key self.now id }
     {
         self.held.contains(id)
+    }
+
+    /// Whether an id is in, as far as one look tells: it does where ids rose by one each. If not, it may be in all the same.
+    pub fn surely_has(&self, id: u64) -> bool
+        ensures { result ≡ true → map.contains_key self.now id ≡ true }
+    {
+        self.held.surely_has(id)
+    }
+
+    /// Whether `surely_has` finds the middle one, and so probably most: what it tells is a matter of time alone.
+    pub fn seems_dense(&self) -> bool {
+        self.held.seems_dense()
     }
 
     /// Puts an id in, and tells whether it is new. Or changes nothing.

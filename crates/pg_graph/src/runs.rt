@@ -12,6 +12,8 @@ use std::marker::Model;
 
 // How many ids a run has at most.
 const LONGEST: usize = 512;
+// How many ids each run has but the last where ids only rose: the last is split at its end when it is full.
+const FILLED: usize = LONGEST - 1;
 
 impl Numbered for u64 {
     ghost number = { λ n. n };
@@ -75,6 +77,13 @@ impl Run {
         ensures { result ≡ list_any (λ n. n == id) self.now }
     {
         self.place(id).is_ok()
+    }
+
+    // Whether an id stands at a place.
+    fn has_at(&self, place: usize, id: u64) -> bool
+        ensures { result ≡ true → list_any (λ n. n == id) self.now ≡ true }
+    {
+        place < self.ids.len() && self.ids[place] == id
     }
 
     // Where an id stands, or belongs: past the last one, mostly, which takes no search.
@@ -187,6 +196,29 @@ pub fn has(runs: &[Run], id: u64) -> bool
 {
     match run_of(runs, id) {
         Some(i) => runs[i].has(id),
+        None => false,
+    }
+}
+
+/// Whether an id is found by one look, where it stands among ids that rose by one. If not, it may be there all the same.
+pub fn surely_has(runs: &[Run], id: u64) -> bool
+    ensures { result ≡ true → list_any (λ n. n == id) (flattened runs.now) ≡ true }
+{
+    let Some(first) = runs.first() else {
+        return false;
+    };
+    let ahead = id.wrapping_sub(first.number()) as usize;
+    let at = ahead / FILLED;
+    at < runs.len() && runs[at].has_at(ahead % FILLED, id)
+}
+
+/// Whether `surely_has` finds the middle one, and so probably most.
+pub fn seem_dense(runs: &[Run]) -> bool {
+    let Some(run) = runs.get(runs.len() / 2) else {
+        return false;
+    };
+    match run.as_slice().last() {
+        Some(id) => surely_has(runs, *id),
         None => false,
     }
 }

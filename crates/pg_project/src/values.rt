@@ -1,5 +1,6 @@
 //! What expressions give at rows, one expression after the other.
 ghost use Rattle.std.specs.Prelude.{◌≡◌, ◌≢◌, ◌<◌, ◌+◌, ◌++◌, [], cond, drop, length, map, IfOk, IfErr, OnOk, Ok, Err};
+ghost use Rattle.pg_meaning.specs.Answer.{◌>>=◌ as and_then};
 ghost use Rattle.pg_meaning.specs.declared.fault.Fault.TheVariants.{OutOfMemory};
 ghost use Rattle.pg_project.specs.Columns.{values_in_items};
 ghost use Rattle.pg_project.specs.Given.{trees_of, values_given, wide_rows_given};
@@ -54,19 +55,19 @@ pub fn prepare_items<'a>(
     Ok(ready)
 }
 
-/// The values of the expressions at a row, left to right, taken into a list that is empty.
+/// The values of the expressions at a row, left to right, behind those that a list has.
 pub(crate) fn push_values<T: Tables>(
     context: &RowContext<'_>,
     ready: &Vec<Prepared<'_>>,
     graph: &GraphView<'_, T>,
     values: &mut Vec<Value>,
 ) -> Result<(), Fault>
-    requires { values.old.items ≡ [] }
-    ensures ok { OnOk result
+    ensures ok { OnOk result (and_then
         (values_given (parameters_view context.now.parameters.now) graph.now context.now.names.now
-        (trees_of context.now.names.now ready.now.items) (map view context.now.row.now)
-        ≡ Ok (map view values.new.items)) }
-    ensures len { OnOk result (length values.new.items ≡ length ready.now.items) }
+        (trees_of context.now.names.now ready.now.items) (map view context.now.row.now))
+        (λ given. Ok (map view values.old.items ++ given)) ≡ Ok (map view values.new.items)) }
+    ensures len { OnOk result
+        (length values.new.items ≡ length values.old.items + length ready.now.items) }
     ensures err { IfErr result (λ e. e ≢ OutOfMemory
         → values_given (parameters_view context.now.parameters.now) graph.now context.now.names.now
         (trees_of context.now.names.now ready.now.items) (map view context.now.row.now) ≡ Err e) }
@@ -115,10 +116,11 @@ pub(crate) fn wide_rows<T: Tables>(
         scope.now.names.now (trees_of scope.now.names.now ready.now.items) keeps (table rows)
         ≡ Err e) }
 {
-    let mut found = Rows::new(scope.query.alloc, width);
-    let mut values = Vec::new(scope.query.alloc);
+    let room = rows.len().saturating_mul(width);
+    let mut values = Vec::with_capacity(scope.query.alloc, room)?;
     let mut left = rows.into_left();
-    // `values` is empty at each turn: what a row gave is moved out, and its memory stays
+    let mut at = 0;
+    // the wide rows up to here stand in `values`, one behind the other
     while let Some(row) = left.look() {
         let context = RowContext {
             alloc: scope.query.alloc,
@@ -128,7 +130,7 @@ pub(crate) fn wide_rows<T: Tables>(
         };
         push_values(&context, ready, graph, &mut values)?;
         pass(&mut left, keeps, &mut values)?;
-        found.push_from(&mut values)?;
+        at += 1;
     }
-    Ok(found)
+    Ok(Rows::of_values(values, width, at))
 }

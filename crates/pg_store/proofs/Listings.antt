@@ -79,10 +79,13 @@ either : (a b : Bool) → b ≡ false → (a || b) ≡ true → a ≡ true
 either true b none h = refl
 either false b none h = absurd (cc)
 
--- where nothing is noted, a set has no id that doesn't belong there
+-- where nothing is noted, an id that a set has belongs there
+pub id_sought : (has : Key → ℕ → Bool) (stale : List (Place × ℕ)) (es : List Entry) (s : State) → stale ≡ [] → HasNoted has stale es s → (key : Key) (id : ℕ) → has key id ≡ true → passes (belongs key) (live s).nodes id ≡ true
+id_sought has stale es s none noted key id is = either (is_there s key id) (is_noted stale key id) (ap (λ ns. is_noted ns key id) none) (noted_now has stale es s noted key id is)
+
 pub each_sought : (has : Key → ℕ → Bool) (stale : List (Place × ℕ)) (es : List Entry) (s : State) → stale ≡ [] → HasNoted has stale es s → (key : Key) (ids : Ids) → ((i : ℕ) → has_id ids i ≡ true → has key i ≡ true)
     → AllByRecursion (λ id. passes (belongs key) (live s).nodes id ≡ true) (map.keys ids)
 each_sought has stale es s none noted key ids within =
     keys_of (λ id. passes (belongs key) (live s).nodes id ≡ true) (map.entries ids)
     (all_entries (λ id t. passes (belongs key) (live s).nodes id ≡ true) ids
-    (λ id t is. either (is_there s key id) (is_noted stale key id) (ap (λ ns. is_noted ns key id) none) (noted_now has stale es s noted key id (within id (ap is_some is)))))
+    (λ id t is. id_sought has stale es s none noted key id (within id (ap is_some is))))

@@ -80,6 +80,14 @@ node_is_there names c i j id o is = ap is_some (node_is_read names c i j id ∙ 
     by_case None = refl
     by_case (Some n) = refl
 
+-- what IsSome says of the node at an end
+pub end_is_there : (names : List (List ℕ)) (c : Content) (i j id : ℕ) → IsSome (map.get c.nodes id) → has_node (graph_of names c i j) id ≡ true
+end_is_there names c i j id there = by_case (map.get c.nodes id) refl there
+  where
+    by_case : (o : Option NodeRecord) → o ≡ map.get c.nodes id → IsSome o → has_node (graph_of names c i j) id ≡ true
+    by_case None is h = absurd (cc)
+    by_case (Some n) is h = node_is_there names c i j id (Some n) is
+
 pub store_is_graph : {T S K : Type 0} (seen : Seen T S) (store : Store T) (shared : Shared S K) → IsFit seen store shared → IsGraph (graph_of_store seen store shared)
 store_is_graph seen store shared fit = held_is_graph shared.names (live (state_of seen store shared)) store.next.node store.next.rel fit.well.holds
 

@@ -1,6 +1,7 @@
 //! The nodes of a graph, one after the other.
 ghost use Rattle.std.specs.Option.{option_map};
-ghost use Rattle.std.specs.Prelude.{◌≡◌, ◌∷◌, [], true, IfSome, IfNone};
+ghost use Rattle.std.specs.FinMap as map;
+ghost use Rattle.std.specs.Prelude.{◌≡◌, ◌∷◌, [], ℕ, Some, true, IfSome, IfNone};
 ghost use Rattle.pg_meaning.specs.Graph.{ids_of, node_at, nodes_with_label};
 ghost use Rattle.pg_meaning.specs.Names.{is_among};
 ghost use Rattle.pg_meaning.specs.Walks.{with_value};
@@ -12,7 +13,7 @@ use crate::shared::Shared;
 use crate::store::Store;
 use crate::views::NodeView;
 use crate::wanted::Wanted;
-use pg_graph::{Members, Tables};
+use pg_graph::{IdSet, Members, Tables};
 use pg_value_core::{NodeId, Value};
 use std::marker::Model;
 
@@ -54,7 +55,7 @@ impl<'a, T: Tables> Nodes<'a, T> {
         }
     }
 
-    /// The next id, if there is one more. Its record is looked at only where something was done that can be undone still.
+    /// The next id, if there is one more. Its record is looked at only where something is noted among the sets of ids.
     pub fn next(&mut self) -> Option<NodeId>
         ensures some { IfSome result (λ id. self.old.ids ≡ id.0 ∷ self.new.ids) }
         ensures none { IfNone result (self.old.ids ≡ []) }
@@ -145,6 +146,19 @@ impl<'a, T: Tables> GraphView<'a, T> {
             ids: self.store.sets.valued(label, key, value).ids(),
             is_exact: false,
         }
+    }
+
+    /// Ids of nodes that have a label, and of no others, where the set of these is exact and an id
+    /// that is in it is mostly found there by one look.
+    pub fn ids_labelled(&self, label: &str) -> Option<&'a IdSet>
+        ensures { IfSome result (λ ids. (id : ℕ) → map.contains_key ids.now id ≡ true
+            → IsLabelled self.now (Some label.now) id) }
+    {
+        if !self.store.sets.stale_ids.is_empty() {
+            return None;
+        }
+        let ids = self.store.sets.labelled(self.shared.names.find(label)?);
+        if ids.seems_dense() { Some(ids) } else { None }
     }
 
     // No nodes.

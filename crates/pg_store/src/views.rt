@@ -1,8 +1,8 @@
 //! One node and one relationship, lent to read.
-ghost use Rattle.std.specs.Prelude.{◌≡◌, map as map_list, bytes_eq, string_bytes, IfOk};
+ghost use Rattle.std.specs.Prelude.{◌≡◌, true, map as map_list, bytes_eq, string_bytes, IfOk, IfSome};
 ghost use Rattle.std.specs.Option.{option_map};
 ghost use Rattle.pg_meaning.specs.Entries.{at_key};
-ghost use Rattle.pg_meaning.specs.Graph.{node_at, other_end, relationship_at};
+ghost use Rattle.pg_meaning.specs.Graph.{has_node, node_at, other_end, relationship_at};
 ghost use Rattle.pg_meaning.specs.Names.{is_among};
 ghost use Rattle.pg_graph.specs.InOrder.{listed_entries};
 ghost use Rattle.pg_graph.specs.Refinement.{node_of};
@@ -203,9 +203,11 @@ impl<'a, T: Tables> GraphView<'a, T> {
         }
     }
 
-    /// A relationship, if it is there.
+    /// A relationship, if it is there, and so both its ends.
     pub fn rel(&self, id: RelId) -> Option<RelView<'a, T>>
-        ensures { result ≡ relationship_at self.now id.0 }
+        ensures is { result ≡ relationship_at self.now id.0 }
+        ensures source { IfSome result (λ rel. has_node self.now rel.source ≡ true) }
+        ensures target { IfSome result (λ rel. has_node self.now rel.target ≡ true) }
     {
         match self.store.rel(self.shared, id) {
             Some(rel) => Some(RelView {

@@ -13,7 +13,7 @@ returns-in_ok-spell_properties-in-Some-clause-data g c =
     let rel = c.in-Some.rel in
     let kind = c.in_ok-from_str-in-Some.field-0 in
     let properties = c.in_ok-spell_properties-in-Some.field-0 in
-    let there : relationship_at graph id.0 ≡ Some rel = sym c.rel.ensures ∙ c.in-Some.is in
+    let there : relationship_at graph id.0 ≡ Some rel = sym c.rel.ensures.is ∙ c.in-Some.is in
     data_rel id kind c.source.result c.target.result properties
     ∙ (λ j. rel_data id.0 (c.target.ensures j) (named_outs properties.items) (c.source.ensures j) ((c.in_ok-from_str-in-Some.ensures.ok ∙ c.kind.ensures) j))
     ∙ ap (λ ms. rel_data id.0 rel.target ms rel.source rel.type) (c.in_ok-spell_properties-in-Some.ensures ∙ ap (λ ps. stored_members (listed_entries ps)) c.deref.ensures.value ∙ ap stored_members c.in_ok-properties-in-Some.ensures)

@@ -10,7 +10,7 @@ loop-id-preserved g c =
     walked c.deref-id-items.result.now rs c.loop-id.id-index (record { 0 = 0 }) c.deref-id-items.ensures.value c.loop-id-test.true
     c.args.graph.now c.loop-id.at.0 c.other_end-at.result.0 c.loop-id.ids.items c.push-in-Some.new.self.items c.push-in-Some-2.new.self.items
     (c.args.first.0 ∷ walk_on c.args.graph.now c.args.first.0 (relationship_ids rs)) c.in-Some.relationship
-    (sym c.rel.ensures ∙ c.in-Some.is) c.other_end-at.ensures c.in_ok-push-in-Some.ensures.items c.in_ok-push-in-Some-2.ensures.items c.loop-id.invariant
+    (sym c.rel.ensures.is ∙ c.in-Some.is) c.other_end-at.ensures c.in_ok-push-in-Some.ensures.items c.in_ok-push-in-Some-2.ensures.items c.loop-id.invariant
 
 pub loop-id-init : goal.loop-id-init
 loop-id-init g c =
@@ -23,7 +23,7 @@ returns-in-None g c =
     let rs = c.args.relationships.now.items in
     sym (walk_ends c.deref-id-items.result.now rs c.loop-id.id-index (record { 0 = 0 }) c.deref-id-items.ensures.value c.loop-id-test.true
     c.args.graph.now c.loop-id.at.0 c.loop-id.ids.items (c.args.first.0 ∷ walk_on c.args.graph.now c.args.first.0 (relationship_ids rs))
-    (sym c.rel.ensures ∙ c.in-None.is) c.loop-id.invariant)
+    (sym c.rel.ensures.is ∙ c.in-None.is) c.loop-id.invariant)
 
 pub returns : goal.returns
 returns g c =

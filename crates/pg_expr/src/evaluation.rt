@@ -5,9 +5,11 @@ ghost use Rattle.pg_expr.specs.Kinds.{IsCase, IsChain, AreTests, AreSuffixes};
 ghost use Rattle.pg_expr.specs.Prepared.{tree_of};
 ghost use Rattle.pg_expr.specs.Reads.{given_property};
 ghost use Rattle.pg_expr.specs.Scalars.{scalar_view, Tells};
-ghost use Rattle.pg_expr.specs.Contexts.{found_view, founds_view, pairs_view, given, given_each, given_map, given_first, given_true, given_chain, given_operands};
-ghost use Rattle.pg_meaning.specs.Expressions.{evaluate};
+ghost use Rattle.pg_expr.specs.Contexts.{found_view, founds_view, pairs_view, given, given_each, given_map, given_first, given_true, given_chain, given_operands, row_at};
+ghost use Rattle.pg_meaning.specs.Expressions.{evaluate, or_fault};
 ghost use Rattle.pg_meaning.specs.Parse.{expressions_of, operands_of, pairs_of, whens_of};
+ghost use Rattle.pg_meaning.specs.Rows.{value_in};
+ghost use Rattle.pg_meaning.specs.declared.fault.Fault.TheVariants.{UndefinedVariable};
 ghost use Rattle.pg_rows.specs.Named.{row_of};
 ghost use Rattle.pg_syntax_tree.specs.View.{expression_view, pair_view, when_view, operand_view};
 ghost use Rattle.pg_value_core.specs.Given.{parameters_view};
@@ -62,6 +64,7 @@ pub fn evaluate<T: Tables>(
 }
 
 /// The same at a row's context.
+#[inline(always)]
 pub fn evaluate_at<T: Tables>(
     context: &RowContext<'_>,
     prepared: &Prepared<'_>,
@@ -75,11 +78,12 @@ pub fn evaluate_at<T: Tables>(
         Form::Property(name, key, near) => property_copied(context, graph, name, key, near),
         Form::Other(tree, true) => told_at(context, graph, tree),
         Form::Other(tree, false) => found_at(context, graph, tree),
-        Form::Column(name, near) => Ok(column(context, name, near)?.take(context.alloc)?),
+        Form::Column(name, near) => column_copied(context, name, near),
     }
 }
 
 /// `variable.key`, as a value of its own.
+#[inline(always)]
 fn property_copied<T: Tables>(
     context: &RowContext<'_>,
     graph: &GraphView<'_, T>,
@@ -95,8 +99,33 @@ fn property_copied<T: Tables>(
         Some(Some(Value::Int(i))) => Ok(Value::Int(*i)),
         Some(Some(value)) => copied(context.alloc, value),
         Some(None) => Ok(Value::Null),
-        None => Ok(column_property(context, graph, name, key, near)?.take(context.alloc)?),
+        None => other_property_copied(context, graph, name, key, near),
     }
+}
+
+/// The same of whatever is no node.
+#[inline(never)]
+fn other_property_copied<T: Tables>(
+    context: &RowContext<'_>,
+    graph: &GraphView<'_, T>,
+    name: &Name,
+    key: &Name,
+    near: usize,
+) -> Result<Value, Fault>
+    ensures { Gives result (given_property context.now graph.now
+        (string_bytes name.now.text) (string_bytes key.now.text)) view }
+{
+    Ok(column_property(context, graph, name, key, near)?.take(context.alloc)?)
+}
+
+/// What a column holds, as a value of its own.
+#[inline(never)]
+fn column_copied(context: &RowContext<'_>, name: &Name, near: usize) -> Result<Value, Fault>
+    ensures { Gives result
+        (or_fault (value_in (string_bytes name.now.text) (row_at context.now)) UndefinedVariable)
+        view }
+{
+    Ok(column(context, name, near)?.take(context.alloc)?)
 }
 
 /// The same of an expression of which scalars are asked first.
@@ -190,6 +219,7 @@ fn told<'a, T: Tables>(
 }
 
 /// The same, borrowed where it stands somewhere: what is read is not copied.
+#[inline(always)]
 pub fn find_at<'a, T: Tables>(
     context: &RowContext<'a>,
     prepared: &Prepared<'_>,

@@ -8,6 +8,7 @@ mod counts;
 mod elements;
 mod evaluation;
 mod known_conjuncts;
+mod lent;
 mod lone_columns;
 mod made;
 mod operators;
@@ -27,6 +28,7 @@ mod value_ref;
 
 pub use conditions::{condition, prepare_condition};
 pub use evaluation::{evaluate, evaluate_at, evaluate_once, find_at};
+pub use lent::{lent_at, push_at};
 pub use lone_columns::{lone_column, read_column};
 pub use prepared::{Prepared, prepare};
 pub use prepared_condition::PreparedCondition;

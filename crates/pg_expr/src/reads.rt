@@ -100,7 +100,7 @@ fn property_lent<'a, T: Tables>(
 }
 
 /// What a node has under a key, if anything, where the column that mostly stands at this place has a node. Most reads are such.
-#[inline(never)]
+#[inline(always)]
 pub(crate) fn node_column_property<'a, T: Tables>(
     context: &RowContext<'a>,
     graph: &GraphView<'a, T>,

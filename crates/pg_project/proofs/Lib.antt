@@ -43,6 +43,7 @@ pub mod NamesAlike
 pub mod ByteOrder
 pub mod LoneStar
 pub mod PassedRows
+pub mod Unseen
 pub mod RowsTwice
 pub mod NoneStarred
 pub mod KeyColumns

@@ -27,7 +27,7 @@ use Rattle.pg_project.proofs.Projecting.{aggregates_are, ended_stand, items_are}
 use Rattle.pg_project.proofs.RowsTwice.{all_once, tail_twice, twice}
 use Rattle.pg_project.proofs.Standing.{all_rows}
 use Rattle.pg_project.proofs.Wide.{table_wide}
-use Rattle.pg_project.specs.Given.{Cut, cut_given, cut_of, distinct_given, earlier_names, has_aggregate, has_none, hides_earlier, passing_given, tail_given, value_given, values_given, wide_rows_given}
+use Rattle.pg_project.specs.Given.{Cut, cut_given, cut_of, distinct_given, earlier_names, has_aggregate, has_none, hides_earlier, passing_given, sorts_by_columns, tail_given, value_given, values_given, wide_rows_given}
 use Rattle.pg_project.specs.Items.{columns_of}
 use Rattle.pg_project.specs.Parts.{rows_projected, stands}
 use Rattle.pg_project.specs.PassThrough.{are_variables, is_place, is_unseen, is_variable_at}
@@ -99,21 +99,24 @@ module _ (parameters : Entries) (graph : Graph) (columns names : List (List ℕ)
       → tail_given parameters graph (columns ++ []) es distinct order c where_ (length columns) (map (λ r. r ++ []) rows) ≡ tail_given parameters graph columns es distinct order c where_ (length names) rows
   alone distinct order where_ = λ i. tail_given parameters graph (nothing_behind columns i) es distinct order c where_ ((same ∙ long) i) (nothing_kept rows i)
 
+  renamed : (distinct : Bool) (order : List SortItem) (where_ : Option Expression) → ((has_none order && is_none where_) ≡ false → columns ≡ names)
+      → tail_given parameters graph columns es distinct order c where_ (length names) rows ≡ tail_given parameters graph names es distinct order c where_ (length names) rows
+  renamed distinct [] None h = unseen_names parameters graph es distinct c (length names) columns names rows
+  renamed distinct [] (Some e) h = ap (λ ns. tail_given parameters graph ns es distinct [] c (Some e) (length names) rows) (h refl)
+  renamed distinct (o ∷ os) where_ h = ap (λ ns. tail_given parameters graph ns es distinct (o ∷ os) c where_ (length names) rows) (h refl)
+
   beside : (order : List SortItem) (where_ : Option Expression) → columns ≡ names
       → tail_given parameters graph (columns ++ names) es false order c where_ (length columns) (map twice rows) ≡ tail_given parameters graph names es false order c where_ (length names) rows
   beside order where_ h =
       (λ i. tail_given parameters graph (h i ++ names) es false order c where_ (length (h i)) (map twice rows))
       ∙ tail_twice parameters graph names es long order c where_ rows (all_once names rows wide)
 
-  tail_is : (distinct : Bool) (order : List SortItem) (where_ : Option Expression) → ((has_none order && is_none where_) ≡ false → columns ≡ names)
-      → tail_given parameters graph (columns ++ earlier_names (distinct || (has_none order && is_none where_)) names) es distinct order c where_ (length columns) (widened (distinct || (has_none order && is_none where_)))
+  tail_is : (distinct by_columns : Bool) (order : List SortItem) (where_ : Option Expression) → (by_columns ≡ false → (has_none order && is_none where_) ≡ false) → ((has_none order && is_none where_) ≡ false → columns ≡ names)
+      → tail_given parameters graph (columns ++ earlier_names (distinct || by_columns) names) es distinct order c where_ (length columns) (widened (distinct || by_columns))
       ≡ tail_given parameters graph names es distinct order c where_ (length names) rows
-  tail_is true [] None h = alone true [] None ∙ unseen_names parameters graph es true c (length names) columns names rows
-  tail_is false [] None h = alone false [] None ∙ unseen_names parameters graph es false c (length names) columns names rows
-  tail_is true [] (Some e) h = alone true [] (Some e) ∙ ap (λ ns. tail_given parameters graph ns es true [] c (Some e) (length names) rows) (h refl)
-  tail_is true (o ∷ os) where_ h = alone true (o ∷ os) where_ ∙ ap (λ ns. tail_given parameters graph ns es true (o ∷ os) c where_ (length names) rows) (h refl)
-  tail_is false [] (Some e) h = beside [] (Some e) (h refl)
-  tail_is false (o ∷ os) where_ h = beside (o ∷ os) where_ (h refl)
+  tail_is true by_columns order where_ seen h = alone true order where_ ∙ renamed true order where_ h
+  tail_is false true order where_ seen h = alone false order where_ ∙ renamed false order where_ h
+  tail_is false false order where_ seen h = beside order where_ (h (seen refl))
 
   no_wider : (rs : List (List Value)) → AllByRecursion (λ r. length r ≡ length names) rs → AllByRecursion (λ r. length r ≡ length columns) (map (λ r. r ++ []) rs)
   no_wider [] h = tt
@@ -122,6 +125,11 @@ module _ (parameters : Entries) (graph : Graph) (columns names : List (List ℕ)
   widened_wide : (distinct unseen : Bool) → distinct ≡ true → AllByRecursion (λ r. length r ≡ length columns) (widened (distinct || unseen))
   widened_wide true unseen h = no_wider rows wide
   widened_wide false unseen h = absurd (true≢false (sym h))
+
+-- where nothing is sorted, each sort is by a column
+seen_so : (columns : List (List ℕ)) (order : List SortItem) (where_ : Option Expression) → (sorts_by_columns columns order && is_none where_) ≡ false → (has_none order && is_none where_) ≡ false
+seen_so columns [] where_ h = h
+seen_so columns (o ∷ os) where_ h = refl
 
 -- ---- the projection
 
@@ -136,7 +144,7 @@ module _ (s : Setting) (graph : Graph) (columns names : List (List ℕ)) (es : L
 module _ (s : Setting) (graph : Graph) (parameters : Entries) (given : s.parameters ≡ parameters) (all : List Column) (p : Projection) (where_ : Option Expression) (columns names : List (List ℕ)) (es : List Expression) (are : all ≡ columns_of columns es) (c : Cut) (cut : cut_given parameters graph p.skip p.limit ≡ Ok c)
     (r : Rows) (width : ℕ) (fits : r.width ≡ length names) (same : length columns ≡ length es) (long : length es ≡ length names) (all_of : width ≡ length names) (variables : are_variables names 0 es ≡ true) (named : is_unseen p where_ ≡ false → columns ≡ names) where
   abbrev hidden : Bool
-  hidden = hides_earlier p where_
+  hidden = hides_earlier columns p where_
 
   abbrev behind_items : Result (List (List Value)) Fault
   behind_items = tail_given parameters graph names es p.distinct p.order c where_ width (table r)
@@ -147,11 +155,11 @@ module _ (s : Setting) (graph : Graph) (parameters : Entries) (given : s.paramet
   passed_is : rows_projected s graph all p where_ (rows_named names (table r)) ≡ (behind_items >>= λ found. Ok (rows_named columns found))
   passed_is =
       let ws : List (List Value) = map (λ w. w ++ cond (not hidden) w []) (table r) in
-      items_are s graph parameters given all p where_ (rows_named names (table r)) columns names es are c cut (Ok (map (stands columns (earlier_names hidden names)) ws)) (items_pass s graph columns names es same long variables hidden (table r) wide)
-      ∙ ended_stand s graph columns (earlier_names hidden names) es same p where_ c ws (widened_wide parameters graph columns names es c same long (table r) wide p.distinct (is_unseen p where_))
+      items_are s graph parameters given all p where_ (rows_named names (table r)) columns names es are same c cut (Ok (map (stands columns (earlier_names hidden names)) ws)) (items_pass s graph columns names es same long variables hidden (table r) wide)
+      ∙ ended_stand s graph columns (earlier_names hidden names) es same p where_ c ws (widened_wide parameters graph columns names es c same long (table r) wide p.distinct (sorts_by_columns columns p.order && is_none where_))
       ∙ (λ i. tail_given (given i) graph (columns ++ earlier_names hidden names) es p.distinct p.order c where_ (length columns) ws >>= λ found. Ok (rows_named columns found))
       ∙ ap (λ a. a >>= λ found. Ok (rows_named columns found))
-      (tail_is parameters graph columns names es c same long (table r) wide p.distinct p.order where_ named ∙ ap (λ n. tail_given parameters graph names es p.distinct p.order c where_ n (table r)) (sym all_of))
+      (tail_is parameters graph columns names es c same long (table r) wide p.distinct (sorts_by_columns columns p.order && is_none where_) p.order where_ (seen_so columns p.order where_) named ∙ ap (λ n. tail_given parameters graph names es p.distinct p.order c where_ n (table r)) (sym all_of))
 
   pub passed_gives : (result : Result Rows Fault) → IfOk result (λ found. behind_items ≡ Ok (table found)) → IfErr result (λ e. e ≢ OutOfMemory → behind_items ≡ Err e) → Gives result (rows_projected s graph all p where_ (rows_named names (table r))) (λ found. rows_named columns (table found))
   passed_gives (Ok found) ok err = record {

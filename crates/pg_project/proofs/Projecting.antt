@@ -28,8 +28,9 @@ use Rattle.pg_project.proofs.Kept.{cut_map, passing_stand}
 use Rattle.pg_project.proofs.Standing.{all_rows}
 use Rattle.pg_project.proofs.Wide.{table_wide}
 use Rattle.pg_project.specs.Items.{columns_of, of_columns}
-use Rattle.pg_project.specs.Given.{Cut, count_at, cut_given, cut_of, distinct_given, earlier_names, has_aggregate, has_none, hides_earlier, ordered_given, passing_given, tail_given, wide_rows_given}
+use Rattle.pg_project.specs.Given.{Cut, count_at, cut_given, cut_of, distinct_given, earlier_names, has_aggregate, has_none, hides_earlier, ordered_given, sorts_by_columns, passing_given, tail_given, wide_rows_given}
 use Rattle.pg_project.specs.Parts.{rows_ended, rows_projected, stands}
+use Rattle.pg_project.proofs.Unseen.{IsNamed, items_alone, items_named, names_of, ordered_alone, stripped}
 
 -- ---- the clause by its parts
 
@@ -221,6 +222,10 @@ module _ (s : Setting) (graph : Graph) (columns : List Column) where
       by (Ok vs) rest h = by_rest vs rest ∙ ap (λ b. b >>= λ ys. Ok (vs ∷ ys)) h
       by (Err f) rest h = refl
 
+  columns_alone : (items : List Projected) → map (λ (r : Projected). r.columns) (map stripped items) ≡ map (λ (r : Projected). r.columns) items
+  columns_alone [] = refl
+  columns_alone (p ∷ ps) = ap (λ rs. p.columns ∷ rs) (columns_alone ps)
+
   no_condition : (items : List Projected) → passing_rows s graph None items ≡ Ok items
   no_condition [] = refl
   no_condition (p ∷ ps) = ap (λ a. a >>= λ others. Ok (p ∷ others)) (no_condition ps)
@@ -238,25 +243,58 @@ module _ (s : Setting) (graph : Graph) (columns : List Column) where
         ∙ ap Ok (sym (cut_map (λ (r : Projected). r.columns) c items))
     cut_later (Err f) = refl
 
+    abbrev cut_columns : List Projected → Result (List Row) Fault
+    cut_columns sorted = passing_rows s graph None (limited c.limit (drop c.skip sorted)) >>= in_columns
+
+    cut_alone : (sorted : List Projected) → cut_columns (map stripped sorted) ≡ cut_columns sorted
+    cut_alone sorted =
+        ap (λ a. a >>= in_columns) (no_condition (limited c.limit (drop c.skip (map stripped sorted))))
+        ∙ ap in_columns (cut_map stripped c sorted)
+        ∙ ap Ok (columns_alone (limited c.limit (drop c.skip sorted)))
+        ∙ sym (ap (λ a. a >>= in_columns) (no_condition (limited c.limit (drop c.skip sorted))))
+
+    behind_alone : (order : List SortItem) → sorts_by_columns (names_of columns) order ≡ true → (items : List Projected) → AllByRecursion (IsNamed columns) items → behind order false None (map stripped items) ≡ behind order false None items
+    behind_alone order h items named =
+        ap (λ a. a >>= cut_columns) (ordered_alone s graph columns order h items named)
+        ∙ by (ordered_rows s graph columns order items)
+      where
+        by : (a : Result (List Projected) Fault) → ((a >>= λ sorted. Ok (map stripped sorted)) >>= cut_columns) ≡ (a >>= cut_columns)
+        by (Ok sorted) = cut_alone sorted
+        by (Err f) = refl
+
     abbrev items_by_kind : (hidden aggregated : Bool) → Result (List Projected) Fault
     items_by_kind hidden aggregated = elim aggregated [ true ↦ grouped s graph columns rows | false ↦ each_answer (projected s.parameters graph hidden columns) rows ]
 
-    hidden_alike : (aggregated : Bool) → (items_by_kind false aggregated >>= behind [] false None) ≡ (items_by_kind true aggregated >>= behind [] false None)
-    hidden_alike true = refl
-    hidden_alike false =
-        cut_later (each_answer (projected s.parameters graph false columns) rows)
-        ∙ ap (λ a. a >>= cut_rows) (columns_only false rows ∙ sym (columns_only true rows))
-        ∙ sym (cut_later (each_answer (projected s.parameters graph true columns) rows))
+    hidden_alike : (order : List SortItem) → sorts_by_columns (names_of columns) order ≡ true → (aggregated : Bool) → (items_by_kind false aggregated >>= behind order false None) ≡ (items_by_kind true aggregated >>= behind order false None)
+    hidden_alike order h true = refl
+    hidden_alike order h false =
+        sym (ap (λ a. a >>= behind order false None) (items_alone s graph columns rows) ∙ by (each_answer (projected s.parameters graph false columns) rows) (items_named s graph columns rows))
+      where
+        by : (a : Result (List Projected) Fault) → IfOk a (AllByRecursion (IsNamed columns)) → ((a >>= λ items. Ok (map stripped items)) >>= behind order false None) ≡ (a >>= behind order false None)
+        by (Ok items) named = behind_alone order h items named
+        by (Err f) named = refl
 
     hidden_by : (distinct : Bool) (order : List SortItem) (where_ : Option Expression)
-        → (item_rows s graph distinct columns rows >>= behind order distinct where_) ≡ (item_rows s graph (distinct || (has_none order && is_none where_)) columns rows >>= behind order distinct where_)
+        → (item_rows s graph distinct columns rows >>= behind order distinct where_) ≡ (item_rows s graph (distinct || (sorts_by_columns (names_of columns) order && is_none where_)) columns rows >>= behind order distinct where_)
     hidden_by true order where_ = refl
-    hidden_by false [] None = hidden_alike (list_any is_aggregate columns)
-    hidden_by false [] (Some e) = refl
-    hidden_by false (o ∷ os) where_ = refl
+    hidden_by false order None = by (sorts_by_columns (names_of columns) order) refl
+      where
+        by : (b : Bool) → sorts_by_columns (names_of columns) order ≡ b → (item_rows s graph false columns rows >>= behind order false None) ≡ (item_rows s graph (b && true) columns rows >>= behind order false None)
+        by true h = hidden_alike order h (list_any is_aggregate columns)
+        by false h = refl
+    hidden_by false order (Some e) = by (sorts_by_columns (names_of columns) order)
+      where
+        by : (b : Bool) → (item_rows s graph false columns rows >>= behind order false (Some e)) ≡ (item_rows s graph (b && false) columns rows >>= behind order false (Some e))
+        by true = refl
+        by false = refl
 
-    hidden_is : (p : Projection) (where_ : Option Expression) → (item_rows s graph p.distinct columns rows >>= rows_ended s graph columns p where_ c) ≡ (item_rows s graph (hides_earlier p where_) columns rows >>= rows_ended s graph columns p where_ c)
+    hidden_is : (p : Projection) (where_ : Option Expression) → (item_rows s graph p.distinct columns rows >>= rows_ended s graph columns p where_ c) ≡ (item_rows s graph (hides_earlier (names_of columns) p where_) columns rows >>= rows_ended s graph columns p where_ c)
     hidden_is p where_ = hidden_by p.distinct p.order where_
+
+names_are : (ns : List (List ℕ)) (es : List Expression) → length ns ≡ length es → names_of (columns_of ns es) ≡ ns
+names_are [] es h = refl
+names_are (n ∷ ns) [] h = absurd (omega (arith, h))
+names_are (n ∷ ns) (e ∷ es) h = ap (λ ms. n ∷ ms) (names_are ns es (omega (arith, h)))
 
 zero_only : (n : ℕ) → (n == 0) ≡ true → n ≡ 0
 zero_only n h = grind (arith, nat_tests)
@@ -286,29 +324,30 @@ module _ (s : Setting) (graph : Graph) (parameters : Entries) (given : s.paramet
   pub cut_fails : (f : Fault) → cut_given parameters graph p.skip p.limit ≡ Err f → rows_projected s graph all p where_ rows ≡ Err f
   cut_fails f h = cut_is (Err f) h
 
-  module _ (columns names : List (List ℕ)) (es : List Expression) (are : all ≡ columns_of columns es) (c : Cut) (cut : cut_given parameters graph p.skip p.limit ≡ Ok c) where
-    pub items_are : (a : Result (List Projected) Fault) → item_rows s graph (hides_earlier p where_) (columns_of columns es) rows ≡ a → rows_projected s graph all p where_ rows ≡ (a >>= rows_ended s graph (columns_of columns es) p where_ c)
+  module _ (columns names : List (List ℕ)) (es : List Expression) (are : all ≡ columns_of columns es) (same : length columns ≡ length es) (c : Cut) (cut : cut_given parameters graph p.skip p.limit ≡ Ok c) where
+    pub items_are : (a : Result (List Projected) Fault) → item_rows s graph (hides_earlier columns p where_) (columns_of columns es) rows ≡ a → rows_projected s graph all p where_ rows ≡ (a >>= rows_ended s graph (columns_of columns es) p where_ c)
     items_are a h =
         cut_is (Ok c) cut
         ∙ ap (λ cs. item_rows s graph p.distinct cs rows >>= rows_ended s graph cs p where_ c) are
         ∙ hidden_is s graph (columns_of columns es) c rows p where_
+        ∙ ap (λ ns. item_rows s graph (hides_earlier ns p where_) (columns_of columns es) rows >>= rows_ended s graph (columns_of columns es) p where_ c) (names_are columns es same)
         ∙ ap (λ b. b >>= rows_ended s graph (columns_of columns es) p where_ c) h
 
-    pub items_fail : (f : Fault) → item_rows s graph (hides_earlier p where_) (columns_of columns es) rows ≡ Err f → rows_projected s graph all p where_ rows ≡ Err f
+    pub items_fail : (f : Fault) → item_rows s graph (hides_earlier columns p where_) (columns_of columns es) rows ≡ Err f → rows_projected s graph all p where_ rows ≡ Err f
     items_fail f h = items_are (Err f) h
 
-    module _ (visible : List (List ℕ)) (r : Rows) (fits : r.width ≡ length visible) (width : ℕ) (same : length columns ≡ length es) (long : width ≡ length columns) (named : visible ≡ columns ++ earlier_names (has_aggregate es || hides_earlier p where_) names)
-        (items : item_rows s graph (hides_earlier p where_) (columns_of columns es) rows ≡ Ok (map (stands columns (earlier_names (has_aggregate es || hides_earlier p where_) names)) (table r))) where
+    module _ (visible : List (List ℕ)) (r : Rows) (fits : r.width ≡ length visible) (width : ℕ) (long : width ≡ length columns) (named : visible ≡ columns ++ earlier_names (has_aggregate es || hides_earlier columns p where_) names)
+        (items : item_rows s graph (hides_earlier columns p where_) (columns_of columns es) rows ≡ Ok (map (stands columns (earlier_names (has_aggregate es || hides_earlier columns p where_) names)) (table r))) where
       abbrev behind_items : Result (List (List Value)) Fault
       behind_items = tail_given parameters graph visible es p.distinct p.order c where_ width (table r)
 
       as_wide : p.distinct ≡ true → AllByRecursion (λ w. length w ≡ length columns) (table r)
-      as_wide h = subst (λ n. AllByRecursion (λ w. length w ≡ n) (table r)) (fits ∙ ap length named ∙ own_width columns names (has_aggregate es) p.distinct (has_none p.order && is_none where_) h) (table_wide r)
+      as_wide h = subst (λ n. AllByRecursion (λ w. length w ≡ n) (table r)) (fits ∙ ap length named ∙ own_width columns names (has_aggregate es) p.distinct (sorts_by_columns columns p.order && is_none where_) h) (table_wide r)
 
       ended_is : rows_projected s graph all p where_ rows ≡ (behind_items >>= λ found. Ok (rows_named columns found))
       ended_is =
-          items_are (Ok (map (stands columns (earlier_names (has_aggregate es || hides_earlier p where_) names)) (table r))) items
-          ∙ ended_stand s graph columns (earlier_names (has_aggregate es || hides_earlier p where_) names) es same p where_ c (table r) as_wide
+          items_are (Ok (map (stands columns (earlier_names (has_aggregate es || hides_earlier columns p where_) names)) (table r))) items
+          ∙ ended_stand s graph columns (earlier_names (has_aggregate es || hides_earlier columns p where_) names) es same p where_ c (table r) as_wide
           ∙ (λ i. tail_given (given i) graph (sym named i) es p.distinct p.order c where_ (sym long i) (table r) >>= λ found. Ok (rows_named columns found))
 
       pub ended_gives : (result : Result Rows Fault) → IfOk result (λ found. behind_items ≡ Ok (table found)) → IfErr result (λ e. e ≢ OutOfMemory → behind_items ≡ Err e) → Gives result (rows_projected s graph all p where_ rows) (λ found. rows_named columns (table found))

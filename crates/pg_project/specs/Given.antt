@@ -1,5 +1,5 @@
 -- What the parts of a projection give at rows of values, whose names stand apart.
-use Rattle.std.specs.List.{list_any}
+use Rattle.std.specs.List.{list_all, list_any}
 use Rattle.std.specs.Prelude.{ℕ, Bool, true, false, cond, List, [], ◌∷◌, ◌++◌, map, take, drop, Result, Ok, Option, Some, None, is_some, is_none, ◌||◌, ◌&&◌, position, slice_index_or, unwrap_or, not}
 use Rattle.pg_expr.specs.Prepared.{tree_of}
 use Rattle.pg_expr.specs.declared.prepared.Prepared.{Prepared}
@@ -9,7 +9,8 @@ use Rattle.pg_meaning.specs.Conditions.{condition}
 use Rattle.pg_meaning.specs.Expressions.{evaluate}
 use Rattle.pg_meaning.specs.Graph.{Graph}
 use Rattle.pg_meaning.specs.Projections.{count_of, limited}
-use Rattle.pg_meaning.specs.Tree.{Expression, SortItem, Projection}
+use Rattle.pg_meaning.specs.Names.{is_among}
+use Rattle.pg_meaning.specs.Tree.{Expression, variable, SortItem, Projection}
 use Rattle.pg_meaning.specs.Trees.{same_expression}
 use Rattle.pg_meaning.specs.Value.{Value as Datum, null, Entries}
 use Rattle.pg_meaning.specs.declared.fault.Fault.{Fault}
@@ -120,6 +121,14 @@ abbrev pub has_none : {X : Type 0} → List X → Bool
 has_none [] = true
 has_none (x ∷ xs) = false
 
--- where neither a sort nor a condition can look at the earlier variables
-abbrev pub hides_earlier : Projection → Option Expression → Bool
-hides_earlier p where_ = p.distinct || (has_none p.order && is_none where_)
+-- the variable of a column
+abbrev pub is_column : (columns : List (List ℕ)) → Expression → Bool
+is_column columns (variable x) = is_among columns x.text
+is_column columns e = false
+
+abbrev pub sorts_by_columns : (columns : List (List ℕ)) → List SortItem → Bool
+sorts_by_columns columns order = list_all (λ (o : SortItem). is_column columns o.key) order
+
+-- where nothing behind the items can look at the earlier variables: there is no condition, and each sort is by a column
+abbrev pub hides_earlier : (columns : List (List ℕ)) → Projection → Option Expression → Bool
+hides_earlier columns p where_ = p.distinct || (sorts_by_columns columns p.order && is_none where_)

@@ -106,7 +106,7 @@ impl Taken {
         {
             return count_one(count);
         }
-        self.take(alloc, Value::Bool(true))
+        self.take_other(alloc, Value::Bool(true))
     }
 }
 

@@ -1,18 +1,21 @@
 //! Rows taken into the aggregates of a group.
 ghost use Rattle.std.specs.Prelude.{◌≡◌, ◌≢◌, ◌≤◌, ◌+◌, ◌*◌, ◌++◌, ℕ, List, length, IfErr, OnOk, Ok, Err};
 ghost use Rattle.pg_expr.specs.Contexts.{given};
+ghost use Rattle.pg_expr.specs.Prepared.{tree_of};
+ghost use Rattle.pg_meaning.specs.Answer.{◌>>=◌ as and_then};
 ghost use Rattle.pg_meaning.specs.declared.fault.Fault.TheVariants.{OutOfMemory};
 ghost use Rattle.pg_project.specs.Kept.{all_taken_in, argument_given, taken_in};
 ghost use Rattle.pg_project.specs.Kept as kept;
 ghost use Rattle.pg_project.specs.KeptGroups.{taken_in_at};
 ghost use Rattle.pg_project.specs.ReadyItems.{aggregate_view, aggregates_view};
+ghost use Rattle.pg_project.specs.Summaries.{taken_with};
 ghost use Rattle.pg_project.specs.Views.{taken_view, takens_view};
 ghost use Rattle.pg_value_core.specs.Gives.{Gives};
 ghost use Rattle.pg_value_core.specs.View.{view};
 
 use crate::items::Aggregate;
 use crate::taken::Taken;
-use pg_expr::{RowContext, evaluate_at};
+use pg_expr::{Prepared, RowContext, evaluate_at};
 use pg_graph::Tables;
 use pg_meaning::Fault;
 use pg_store::GraphView;
@@ -54,6 +57,7 @@ pub(crate) fn argument_value<T: Tables>(
 }
 
 /// Takes the row into an aggregate.
+#[inline(always)]
 fn take_in<T: Tables>(
     context: &RowContext<'_>,
     graph: &GraphView<'_, T>,
@@ -67,12 +71,31 @@ fn take_in<T: Tables>(
         (aggregate_view context.now.names.now aggregate.now) (taken_view taken.old) ≡ Err e) }
 {
     match &aggregate.argument {
-        Some(argument) => taken.take(context.alloc, evaluate_at(context, argument, graph)?),
+        Some(argument) => take_value(context, graph, argument, taken),
         None => taken.take_row(context.alloc),
     }
 }
 
+/// Takes the value of an argument into an aggregate.
+#[inline(never)]
+fn take_value<T: Tables>(
+    context: &RowContext<'_>,
+    graph: &GraphView<'_, T>,
+    argument: &Prepared<'_>,
+    taken: &mut Taken,
+) -> Result<(), Fault>
+    ensures ok { OnOk result (and_then
+        (given context.now graph.now (tree_of context.now.names.now argument.now))
+        (taken_with (taken_view taken.old)) ≡ Ok (taken_view taken.new)) }
+    ensures err { IfErr result (λ e. e ≢ OutOfMemory → and_then
+        (given context.now graph.now (tree_of context.now.names.now argument.now))
+        (taken_with (taken_view taken.old)) ≡ Err e) }
+{
+    taken.take(context.alloc, evaluate_at(context, argument, graph)?)
+}
+
 /// Takes the row into the aggregates of the group of this number.
+#[inline(always)]
 pub(crate) fn take_in_group<T: Tables>(
     context: &RowContext<'_>,
     graph: &GraphView<'_, T>,
@@ -97,6 +120,7 @@ pub(crate) fn take_in_group<T: Tables>(
 }
 
 /// Takes the row into the aggregates of a group, left to right.
+#[inline(always)]
 fn take_in_all<T: Tables>(
     context: &RowContext<'_>,
     graph: &GraphView<'_, T>,

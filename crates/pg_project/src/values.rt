@@ -13,7 +13,7 @@ ghost use Rattle.pg_value_core.specs.View.{view};
 
 use crate::clause_scope::ClauseScope;
 use crate::made::push_made;
-use pg_expr::{Prepared, RowContext, evaluate_at, prepare};
+use pg_expr::{Prepared, RowContext, prepare, push_at};
 use pg_graph::Tables;
 use pg_meaning::Fault;
 use pg_rows::{Columns, Rows, RowsLeft};
@@ -21,6 +21,9 @@ use pg_store::GraphView;
 use pg_syntax_tree::{Expression, Item};
 use pg_value_core::Value;
 use std::alloc::{AllocError, Global};
+
+/// Room for so many wide rows is asked for at once. Of more it is asked for as they come, since the first of them may have a fault.
+const ROOM: usize = 1024;
 
 /// The expressions, made ready for rows under the names.
 pub fn prepare_each<'a>(
@@ -73,8 +76,7 @@ pub(crate) fn push_values<T: Tables>(
         (trees_of context.now.names.now ready.now.items) (map view context.now.row.now) ≡ Err e) }
 {
     for one in ready {
-        let value = evaluate_at(context, one, graph)?;
-        values.push(value)?;
+        push_at(context, one, graph, values)?;
     }
     Ok(())
 }
@@ -116,7 +118,7 @@ pub(crate) fn wide_rows<T: Tables>(
         scope.now.names.now (trees_of scope.now.names.now ready.now.items) keeps (table rows)
         ≡ Err e) }
 {
-    let room = rows.len().saturating_mul(width);
+    let room = rows.len().min(ROOM).saturating_mul(width);
     let mut values = Vec::with_capacity(scope.query.alloc, room)?;
     let mut left = rows.into_left();
     let mut at = 0;

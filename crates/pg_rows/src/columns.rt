@@ -96,6 +96,7 @@ impl Columns {
     }
 
     /// The first column of this name. Among names that rise it is found in few steps, however many there are.
+    #[inline(never)]
     pub fn find(&self, name: &str) -> Option<usize>
         ensures { result ≡ position (bytes_eq name.now) self.now }
     {

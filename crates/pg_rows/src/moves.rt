@@ -1,11 +1,25 @@
-//! Values moved from one list to another.
-ghost use Rattle.std.specs.Prelude.{◌≡◌, ◌+◌, ◌≤◌, ◌++◌, length, map, take, drop, replicate, IfOk, OnOk};
+//! Items put behind others, and values moved from one list to another.
+ghost use Rattle.std.specs.Prelude.{◌≡◌, ◌+◌, ◌≤◌, ◌++◌, ◌∷◌, [], length, map, take, drop, replicate, IfOk, OnErr, OnOk};
 ghost use Rattle.pg_value_core.specs.View.{view};
 ghost use Rattle.pg_value_core.specs.declared.value.Value.TheVariants.{Null};
 
 use pg_value_core::Value;
 use std::alloc::{AllocError, Global};
 use std::mem;
+
+/// Puts an item behind the others. Mostly there is room, and then it is written where it stays.
+#[inline(always)]
+pub fn push_item<T: Drop>(items: &mut Vec<T>, item: T) -> Result<(), AllocError>
+    ensures ok { OnOk result (items.new.items ≡ items.old.items ++ item ∷ []) }
+    ensures err { OnErr result (items.new.items ≡ items.old.items) }
+{
+    if items.len() < items.capacity() {
+        items.push_reserved(item);
+        return Ok(());
+    }
+    items.push(item)?;
+    Ok(())
+}
 
 /// Moves the values behind `start` to the end of `moved`, and leaves nulls.
 pub(crate) fn move_row(
@@ -23,7 +37,7 @@ pub(crate) fn move_row(
 {
     for offset in 0..width {
         let value = mem::replace(&mut values[start + offset], Value::Null);
-        moved.push(value)?;
+        push_item(moved, value)?;
     }
     Ok(())
 }
@@ -37,7 +51,7 @@ pub fn copy_row(alloc: Global, row: &[Value], values: &mut Vec<Value>) -> Result
     ensures len { OnOk result (length values.new.items ≡ length values.old.items + length row.now) }
 {
     for value in row {
-        values.push(value.copy(alloc)?)?;
+        push_item(values, value.copy(alloc)?)?;
     }
     Ok(())
 }

@@ -44,6 +44,12 @@ pub record Leaves (run : Result State Fault) (p : Projection) (names : List (Lis
 abbrev pub replied : (notes returns : Bool) → (names : List (List ℕ)) → State → Result QueryText Fault
 replied notes returns names last = told notes last.graph (named_items (cond returns names [])) (output_rows returns last.rows) last.steps
 
+-- the value that an item gives at a row is told
+pub record ValueTold (graph : Graph) (given : Result Value Fault) (old new : ReplyWriter) : Type 0 where
+  pub value : Value
+  pub is : given ≡ Ok value
+  pub telling : (notes : Bool) (columns : Items) (rows : List (List Value)) (row : List Value) → IsTellingRow notes graph columns rows row old → IsTellingRow notes graph columns rows (row ++ value ∷ []) new
+
 -- the values that the items give at a row are told
 pub record RowTold (graph : Graph) (given : Result (List Value) Fault) (old new : ReplyWriter) : Type 0 where
   pub values : List Value

@@ -122,6 +122,7 @@ impl ReplyWriter {
     }
 
     /// Puts a value for which no room is counted yet.
+    #[inline(always)]
     fn put_scalar(&mut self, out: Out) -> Result<(), AllocError>
         ensures { Puts result self.old self.new (data_of out) (least (data_of out)) }
     {
@@ -130,6 +131,7 @@ impl ReplyWriter {
     }
 
     /// Puts a text, of which no copy is made.
+    #[inline(always)]
     fn put_text(&mut self, text: &str) -> Result<(), AllocError>
         ensures { Puts result self.old self.new (string text.now) (length text.now + 2) }
     {
@@ -141,6 +143,7 @@ impl ReplyWriter {
     }
 
     /// Puts a value for which the room is counted, if some is left.
+    #[inline(always)]
     fn put(&mut self, out: Out) -> Result<(), AllocError>
         ensures { Puts result self.old self.new (data_of out) 0 }
     {

@@ -1,20 +1,24 @@
 //! Rows that are told as they are made.
-ghost use Rattle.std.specs.Prelude.{◌≡◌, ◌≢◌, map, IfOk, IfErr, Err};
+ghost use Rattle.std.specs.Prelude.{◌≡◌, ◌≢◌, map, option_map, unwrap_or, IfOk, IfErr, OnOk, Err, Ok};
+ghost use Rattle.pg_expr.specs.Contexts.{given};
+ghost use Rattle.pg_expr.specs.Prepared.{tree_of};
 ghost use Rattle.pg_meaning.specs.Answer.{each_answer};
 ghost use Rattle.pg_meaning.specs.declared.fault.Fault.TheVariants.{OutOfMemory};
 ghost use Rattle.pg_project.specs.Cuts.{cut_view};
-ghost use Rattle.pg_run.specs.Returning.{IsGiven, RowPassed, RowTold, RowsTold, items_given};
+ghost use Rattle.pg_meaning.specs.Value.{null};
+ghost use Rattle.pg_run.specs.Returning.{IsGiven, RowPassed, RowTold, RowsTold, ValueTold, items_given};
 ghost use Rattle.pg_rows.specs.Tables.{table};
 ghost use Rattle.pg_value_core.specs.View.{view};
 
 use crate::reply_writer::ReplyWriter;
-use pg_expr::{Prepared, QueryContext, RowContext, find_at};
+use pg_expr::{Prepared, QueryContext, RowContext, find_at, lent_at};
 use pg_graph::Tables;
 use pg_meaning::Fault;
 use pg_project::Cut;
 use pg_rows::{Columns, Rows};
 use pg_store::GraphView;
 use pg_value_core::Value;
+use std::alloc::{AllocError, Global};
 
 /// The items of RETURN made ready, and what they are evaluated with at each row.
 #[derive(Clone, Copy)]
@@ -86,9 +90,62 @@ fn tell_items<'a, T: Tables>(
     };
     telling.begin_row()?;
     for one in items.ready {
-        let found = find_at(&context, one, graph)?;
-        telling.take(query.alloc, graph, found.look())?;
+        tell_item(&context, one, graph, telling)?;
     }
+    Ok(())
+}
+
+/// Tells what one item gives at a row.
+#[inline(always)]
+fn tell_item<'a, T: Tables>(
+    context: &RowContext<'a>,
+    one: &Prepared<'_>,
+    graph: &GraphView<'a, T>,
+    telling: &mut ReplyWriter,
+) -> Result<(), Fault>
+    ensures ok { OnOk result (ValueTold graph.now
+        (given context.now graph.now (tree_of context.now.names.now one.now))
+        telling.old telling.new) }
+    ensures err { IfErr result (λ e. e ≢ OutOfMemory
+        → given context.now graph.now (tree_of context.now.names.now one.now) ≡ Err e) }
+{
+    match lent_at(context, one, graph) {
+        Some(held) => Ok(tell_held(context.alloc, held, graph, telling)?),
+        None => tell_found(context, one, graph, telling),
+    }
+}
+
+#[inline(always)]
+fn tell_held<T: Tables>(
+    alloc: Global,
+    held: Option<&Value>,
+    graph: &GraphView<'_, T>,
+    telling: &mut ReplyWriter,
+) -> Result<(), AllocError>
+    ensures { OnOk result (ValueTold graph.now
+        (Ok (unwrap_or (option_map (λ v. view v.now) held.entry) null)) telling.old telling.new) }
+{
+    match held {
+        Some(value) => telling.take(alloc, graph, value),
+        None => telling.take(alloc, graph, &Value::Null),
+    }
+}
+
+#[inline(never)]
+fn tell_found<'a, T: Tables>(
+    context: &RowContext<'a>,
+    one: &Prepared<'_>,
+    graph: &GraphView<'a, T>,
+    telling: &mut ReplyWriter,
+) -> Result<(), Fault>
+    ensures ok { OnOk result (ValueTold graph.now
+        (given context.now graph.now (tree_of context.now.names.now one.now))
+        telling.old telling.new) }
+    ensures err { IfErr result (λ e. e ≢ OutOfMemory
+        → given context.now graph.now (tree_of context.now.names.now one.now) ≡ Err e) }
+{
+    let found = find_at(context, one, graph)?;
+    telling.take(context.alloc, graph, found.look())?;
     Ok(())
 }
 

@@ -33,9 +33,10 @@ returns-in_err-wide-clause-gives g c = λ s given.
     let rows = rows_named c.args.scope.now.names.now (table c.args.rows) in
     let columns = c.args.columns.now.names in
     let es = expressions_view c.in_ok-items.items.items in
+    let same : length columns ≡ length es = sym c.in_ok-items.ensures.len ∙ sym (length-map c.in_ok-items.items.items (λ e. expression_view e.now)) in
     let said = c.in_err-wide.ensures.gives s given in
-    let refused : (f : Fault) → item_rows s graph (hides_earlier p where_) (columns_of columns es) rows ≡ Err f → rows_projected s graph all p where_ rows ≡ Err f =
-    items_fail s graph ps given all p where_ rows columns c.args.scope.now.names.now es c.in_ok-items.ensures.trees (cut_view c.in_ok-cut.cut) c.in_ok-cut.ensures.ok in
+    let refused : (f : Fault) → item_rows s graph (hides_earlier columns p where_) (columns_of columns es) rows ≡ Err f → rows_projected s graph all p where_ rows ≡ Err f =
+    items_fail s graph ps given all p where_ rows columns c.args.scope.now.names.now es c.in_ok-items.ensures.trees same (cut_view c.in_ok-cut.cut) c.in_ok-cut.ensures.ok in
     record {
       ok = IfOk-from_err c.from_residual-in_err-wide.result _ c.from_residual-in_err-wide.ensures.0;
       err = fault_passed _ c.in_err-wide.field-0.0 c.from_residual-in_err-wide.result c.from_residual-in_err-wide.ensures.1 (λ other. refused c.in_err-wide.field-0.0 (ap (λ b. item_rows s graph b (columns_of columns es) rows) (sym c.hides_earlier-hidden.ensures) ∙ said.err other));
@@ -58,14 +59,14 @@ returns-clause-gives g c = λ s given.
     let apart = c.split-visible in
     let hidden = c.hides_earlier-hidden.ensures in
     let names = c.args.scope.now.names.now in
-    let named : apart.result.0 ≡ columns ++ earlier_names (has_aggregate es || hides_earlier p where_) names =
+    let named : apart.result.0 ≡ columns ++ earlier_names (has_aggregate es || hides_earlier columns p where_) names =
     apart.ensures.names ∙ wide.ensures.names ∙ ap (λ b. columns ++ earlier_names (has_aggregate es || b) names) hidden in
-    let stand : List (List Value) → List Projected = map (stands columns (earlier_names (has_aggregate es || hides_earlier p where_) names)) in
-    let made : item_rows s graph (hides_earlier p where_) (columns_of columns es) rows ≡ Ok (stand (table apart.result.1)) =
+    let stand : List (List Value) → List Projected = map (stands columns (earlier_names (has_aggregate es || hides_earlier columns p where_) names)) in
+    let made : item_rows s graph (hides_earlier columns p where_) (columns_of columns es) rows ≡ Ok (stand (table apart.result.1)) =
     subst (λ b. item_rows s graph b (columns_of columns es) rows ≡ Ok (map (stands columns (earlier_names (has_aggregate es || b) names)) (seen wide.wide).rows)) hidden (wide.ensures.gives s given).ok
     ∙ ap (λ rs. Ok (stand rs)) (sym apart.ensures.rows) in
-    ended_gives s graph ps given all p where_ rows columns names es c.in_ok-items.ensures.trees (cut_view c.in_ok-cut.cut) c.in_ok-cut.ensures.ok
-    apart.result.0 apart.result.1 (apart.ensures.width ∙ sym (ap length apart.ensures.names)) (length items) same long named made
+    ended_gives s graph ps given all p where_ rows columns names es c.in_ok-items.ensures.trees same (cut_view c.in_ok-cut.cut) c.in_ok-cut.ensures.ok
+    apart.result.0 apart.result.1 (apart.ensures.width ∙ sym (ap length apart.ensures.names)) (length items) long named made
     c.ended_rows-2.result c.ended_rows-2.ensures.ok c.ended_rows-2.ensures.err
 
 pub returns-then-passes_through-clause-gives : goal.returns-then-passes_through-clause-gives

@@ -19,7 +19,7 @@ loop-offset-preserved c =
     let o : ℕ = c.loop-offset.offset in
     let d = c.index_mut.result.now in
     let got = got_is old vs s o Null (omega arith) c.loop-offset.invariant.1 d in (
-      c.in_ok-push.ensures.items
+      c.in_ok-push_item.ensures.ok
           ∙ ap (λ ms. ms ++ c.replace-value.result ∷ []) c.loop-offset.invariant.0
           ∙ moved_more old c.args.moved.now.items s o c.replace-value.result d (omega arith) (c.replace-value.ensures.value ∙ c.index_mut.ensures.value ∙ got),
       ap (slice_set vs (s + o)) c.replace-value.ensures.after ∙ set_is old vs s o Null (omega arith) c.loop-offset.invariant.1 d,
@@ -29,8 +29,8 @@ loop-offset-preserved c =
 pub loop-offset-init : goal.loop-offset-init
 loop-offset-init c = (sym (append-nil c.args.moved.now.items), parted c.args.start c.args.values.now.items, refl)
 
-pub returns-in_err-push-clause-len : goal.returns-in_err-push-clause-len
-returns-in_err-push-clause-len c = length-set c.loop-offset.values.items (c.args.start + c.loop-offset.offset) c.replace-value.new.dest ∙ c.loop-offset.invariant.2
+pub returns-in_err-push_item-clause-len : goal.returns-in_err-push_item-clause-len
+returns-in_err-push_item-clause-len c = length-set c.loop-offset.values.items (c.args.start + c.loop-offset.offset) c.replace-value.new.dest ∙ c.loop-offset.invariant.2
 
 pub returns-clause-moved : goal.returns-clause-moved
 returns-clause-moved c =

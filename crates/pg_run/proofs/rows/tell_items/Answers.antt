@@ -1,4 +1,4 @@
-use Rattle.std.proofs.Common.{rules, ◌≡◌, map, Ok, Err, refl, ap, sym, ◌∙◌}
+use Rattle.std.proofs.Common.{rules, ◌≡◌, map, Err, refl, ap}
 use Rattle.pg_expr.specs.Prepared.{tree_of}
 use Rattle.pg_meaning.specs.declared.fault.Fault.{Fault}
 use Rattle.pg_project.specs.Given.{trees_of, value_given, values_given}
@@ -18,10 +18,11 @@ loop-one-preserved g c =
     let names = c.args.items.now.names.now in
     let f = value_given (parameters_view c.args.items.now.query.now.parameters.now) c.args.graph.now names (map view c.args.row.now) in
     let here = ap (trees_of names) (item_here c.loop-one-test.true c.one-item.is refl) in
-    one_item c.args.graph.now _ f (trees_of names c.args.items.now.ready.now) _ _ _ _ _ (view c.look.result.now) c.loop-one.invariant here (c.in_ok-found.ensures.ok ∙ ap Ok (sym c.look.ensures)) c.in_ok-take.ensures.telling
+    let told = c.in_ok-tell_item.ensures.ok in
+    one_item c.args.graph.now _ f (trees_of names c.args.items.now.ready.now) _ _ _ _ _ told.value c.loop-one.invariant here told.is told.telling
 
-pub returns-in_err-found-clause-err : goal.returns-in_err-found-clause-err
-returns-in_err-found-clause-err g c =
+pub returns-in_err-tell_item-clause-err : goal.returns-in_err-tell_item-clause-err
+returns-in_err-tell_item-clause-err g c =
     let names = c.args.items.now.names.now in
     let ps = parameters_view c.args.items.now.query.now.parameters.now in
     let graph = c.args.graph.now in

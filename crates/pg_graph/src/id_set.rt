@@ -63,6 +63,7 @@ impl IdStorage {
         }
     }
 
+    #[inline(always)]
     fn surely_has(&self, id: u64) -> bool
         ensures { result ≡ true → list_any (λ n. n == id) (ids_of self.now) ≡ true }
     {
@@ -187,7 +188,8 @@ impl IdSet {
         self.held.contains(id)
     }
 
-    /// Whether an id is in, as far as one look tells: it does where ids rose by one each. If not, it may be in all the same.
+    /// Whether an id is in, as far as a few looks tell: they do where ids rose by one each, or by little more. If not, it may be in all the same.
+    #[inline(always)]
     pub fn surely_has(&self, id: u64) -> bool
         ensures { result ≡ true → map.contains_key self.now id ≡ true }
     {

@@ -14,6 +14,8 @@ use std::marker::Model;
 const LONGEST: usize = 512;
 // How many ids each run has but the last where ids only rose: the last is split at its end when it is full.
 const FILLED: usize = LONGEST - 1;
+// So many ids of a run are looked at, at most, to find one without a search.
+const LOOKS: usize = 4;
 
 impl Numbered for u64 {
     ghost number = { λ n. n };
@@ -84,6 +86,25 @@ impl Run {
         ensures { result ≡ true → list_any (λ n. n == id) self.now ≡ true }
     {
         place < self.ids.len() && self.ids[place] == id
+    }
+
+    // Whether an id stands near a place, where some of those before it are missing: from an id that is off by so many
+    // the next look is as many places on or back.
+    #[inline(never)]
+    fn has_near(&self, place: usize, id: u64) -> bool
+        ensures { result ≡ true → list_any (λ n. n == id) self.now ≡ true }
+    {
+        let mut at = place.min(self.ids.len().saturating_sub(1));
+        for _look in 0..LOOKS {
+            let Some(found) = self.ids.get(at) else {
+                return false;
+            };
+            if *found == id {
+                return true;
+            }
+            at = at.wrapping_add(id.wrapping_sub(*found) as usize);
+        }
+        false
     }
 
     // Where an id stands, or belongs: past the last one, mostly, which takes no search.
@@ -200,7 +221,8 @@ pub fn has(runs: &[Run], id: u64) -> bool
     }
 }
 
-/// Whether an id is found by one look, where it stands among ids that rose by one. If not, it may be there all the same.
+/// Whether an id is found by a few looks, where it stands among ids that rose by one, or by little more. If not, it may be there all the same.
+#[inline(always)]
 pub fn surely_has(runs: &[Run], id: u64) -> bool
     ensures { result ≡ true → list_any (λ n. n == id) (flattened runs.now) ≡ true }
 {
@@ -209,7 +231,15 @@ pub fn surely_has(runs: &[Run], id: u64) -> bool
     };
     let ahead = id.wrapping_sub(first.number()) as usize;
     let at = ahead / FILLED;
-    at < runs.len() && runs[at].has_at(ahead % FILLED, id)
+    if at >= runs.len() {
+        return false;
+    }
+    let run = &runs[at];
+    let place = ahead % FILLED;
+    if run.has_at(place, id) {
+        return true;
+    }
+    run.has_near(place, id)
 }
 
 /// Whether `surely_has` finds the middle one, and so probably most.

@@ -149,7 +149,7 @@ impl<'a, T: Tables> GraphView<'a, T> {
     }
 
     /// Ids of nodes that have a label, and of no others, where the set of these is exact and an id
-    /// that is in it is mostly found there by one look.
+    /// that is in it is mostly found there by a few looks.
     pub fn ids_labelled(&self, label: &str) -> Option<&'a IdSet>
         ensures { IfSome result (λ ids. (id : ℕ) → map.contains_key ids.now id ≡ true
             → IsLabelled self.now (Some label.now) id) }

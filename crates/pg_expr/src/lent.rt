@@ -1,5 +1,5 @@
 //! What most prepared expressions read, where it stands.
-ghost use Rattle.std.specs.Prelude.{◌≡◌, ◌≢◌, ◌++◌, ◌∷◌, [], IfErr, IfSome, OnOk, Err, Ok, map, option_map, unwrap_or};
+ghost use Rattle.std.specs.Prelude.{◌≡◌, ◌≢◌, ◌++◌, ◌∷◌, [], IfErr, IfSome, OnOk, Err, Ok, option_map, unwrap_or};
 ghost use Rattle.pg_expr.specs.Contexts.{given};
 ghost use Rattle.pg_expr.specs.Prepared.{tree_of};
 ghost use Rattle.pg_meaning.specs.Tree.{variable};

@@ -38,6 +38,7 @@ pub mod Turns
 pub mod Counting
 mod Numbers
 mod RowCounts
+pub mod AlikeCounts
 pub mod AlikeRows
 pub mod NamesAlike
 pub mod ByteOrder

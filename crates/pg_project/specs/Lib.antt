@@ -14,3 +14,4 @@ pub mod Summaries
 pub mod Views
 pub mod PassThrough
 pub mod Alike
+pub mod AlikeRows

@@ -1,5 +1,5 @@
 //! What is kept of the values that an aggregate has taken in.
-ghost use Rattle.std.specs.Prelude.{◌≡◌, ◌≢◌, ◌+ℤ◌, [], pos, Ok, Err, IfOk, OnOk, IfErr, map, option_map};
+ghost use Rattle.std.specs.Prelude.{◌≡◌, ◌≢◌, ◌+ℤ◌, [], true, false, pos, Ok, Err, IfOk, OnOk, IfErr, map, option_map};
 ghost use Rattle.pg_meaning.specs.Aggregates.{lesser, greater};
 ghost use Rattle.pg_meaning.specs.Value.{integer};
 ghost use Rattle.pg_meaning.specs.declared.fault.Fault.TheVariants.{OutOfMemory};
@@ -100,6 +100,23 @@ pub(crate) fn count_one(count: &mut i64) -> Result<(), Fault>
             Ok(())
         }
         None => Err(Fault::OutOfMemory),
+    }
+}
+
+/// Adds so many rows to a count, if there is room for them. Tells whether it has.
+pub(crate) fn add_rows(count: &mut i64, more: usize) -> bool
+    ensures added { result ≡ true → count.new ≡ count.old +ℤ pos more }
+    ensures same { result ≡ false → count.new ≡ count.old }
+{
+    let Ok(more) = i64::try_from(more) else {
+        return false;
+    };
+    match count.checked_add(more) {
+        Some(sum) => {
+            *count = sum;
+            true
+        }
+        None => false,
     }
 }
 

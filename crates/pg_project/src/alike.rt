@@ -1,11 +1,13 @@
 //! Rows that have the same key as the row before them, told by the columns that the key reads.
 ghost use Rattle.std.specs.Prelude.{◌≡◌, Some, true, map, option_map, IfOk, IfSome};
 ghost use Rattle.pg_project.specs.Alike.{AreAlike, HaveAlike, ReadEach};
+ghost use Rattle.pg_project.specs.AlikeRows.{AlikeUntil};
 ghost use Rattle.pg_project.specs.ReadyItems.{keys_of};
+ghost use Rattle.pg_rows.specs.Tables.{table};
 ghost use Rattle.pg_value_core.specs.View.{view};
 
 use pg_expr::{Prepared, read_column};
-use pg_rows::Columns;
+use pg_rows::{Columns, Rows};
 use pg_value_core::Value;
 use std::alloc::{AllocError, Global};
 
@@ -51,6 +53,21 @@ pub(crate) fn group_again(
         Some(columns) if are_alike(columns.as_slice(), row, before) => Some(number),
         _ => None,
     }
+}
+
+/// The place of the first row from one on that isn't surely alike in these columns to a row before.
+#[inline(never)]
+pub(crate) fn alike_until(columns: &[usize], rows: &Rows, from: usize, before: &[Value]) -> usize
+    ensures { AlikeUntil columns.now (table rows.now) from result (map view before.now) }
+{
+    let mut at = from;
+    while at < rows.len() {
+        if !are_alike(columns, rows.row(at), before) {
+            return at;
+        }
+        at += 1;
+    }
+    at
 }
 
 /// Whether both rows have the same element in each of these columns.

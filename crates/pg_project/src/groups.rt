@@ -1,9 +1,11 @@
 //! Groups of rows, in the order of their first rows.
 ghost use Rattle.indexmap.specs.IndexSet.{insert_key};
 ghost use Rattle.std.specs.List.{list_any, position_or_len};
-ghost use Rattle.std.specs.Prelude.{◌≡◌, ◌<◌, ◌∷◌, [], length, map, not, true, IfOk, OnOk};
+ghost use Rattle.std.specs.Prelude.{◌≡◌, ◌<◌, ◌∷◌, [], length, map, not, true, false, IfOk, OnOk};
 ghost use Rattle.pg_expr.specs.Contexts.{found_view};
+ghost use Rattle.pg_project.specs.AlikeRows.{CountsMoreAt};
 ghost use Rattle.pg_project.specs.KeptGroups.{same_keys, HasNumber, IsNumber};
+ghost use Rattle.pg_project.specs.Views.{takens_view};
 ghost use Rattle.pg_value_core.specs.View.{view};
 
 use crate::items::{Aggregate, Items};
@@ -150,6 +152,23 @@ impl Groups {
             key (groups_view (length aggregates.now.items) self.old) ≡ Err e) }
     {
         take_in_group(context, graph, aggregates, &mut self.taken, number)
+    }
+}
+
+/// Counts so many rows more in the group of this number, where all that is kept of a group is how many rows it has. Tells
+/// whether it has.
+pub(crate) fn count_more(groups: &mut Groups, number: usize, more: usize) -> bool
+    ensures counted { result ≡ true → CountsMoreAt number more
+        (takens_view groups.old.taken.items) (takens_view groups.new.taken.items) }
+    ensures same { result ≡ false
+        → takens_view groups.new.taken.items ≡ takens_view groups.old.taken.items }
+    ensures keys { groups.new.keys ≡ groups.old.keys }
+    ensures latest { groups.new.latest ≡ groups.old.latest }
+{
+    if number < groups.taken.len() {
+        groups.taken[number].count_more(more)
+    } else {
+        false
     }
 }
 

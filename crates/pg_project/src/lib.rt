@@ -4,6 +4,7 @@
 mod accumulator;
 mod aggregates;
 mod alike;
+mod alike_rows;
 mod clause_scope;
 mod collected;
 mod columns;

@@ -1,13 +1,14 @@
 //! What is kept of an aggregate in a group.
-ghost use Rattle.std.specs.Prelude.{◌≡◌, ◌≢◌, true, IfErr, IfOk, OnOk, Ok, Err, map, option_map};
+ghost use Rattle.std.specs.Prelude.{◌≡◌, ◌≢◌, true, false, IfErr, IfOk, OnOk, Ok, Err, map, option_map};
 ghost use Rattle.pg_meaning.specs.Value.{boolean};
 ghost use Rattle.pg_meaning.specs.declared.fault.Fault.TheVariants.{OutOfMemory};
+ghost use Rattle.pg_project.specs.AlikeRows.{CountsMore};
 ghost use Rattle.pg_project.specs.Summaries.{begun, Counts, is_null, needs_different, taken_with};
 ghost use Rattle.pg_project.specs.Views.{taken_view};
 ghost use Rattle.pg_scope.specs.Calls.{summary_view};
 ghost use Rattle.pg_value_core.specs.View.{view};
 
-use crate::accumulator::{Accumulator, add_integer, count_one};
+use crate::accumulator::{Accumulator, add_integer, add_rows, count_one};
 use indexmap::IndexSet;
 use pg_meaning::Fault;
 use pg_scope::AggregateFunction;
@@ -92,6 +93,21 @@ impl Taken {
             return Ok(());
         }
         self.held.take(alloc, value)
+    }
+
+    /// Takes in so many rows more, where only they are counted. Tells whether it has.
+    pub(crate) fn count_more(&mut self, more: usize) -> bool
+        ensures counted { result ≡ true
+            → CountsMore more (taken_view self.old) (taken_view self.new) }
+        ensures same { result ≡ false → taken_view self.new ≡ taken_view self.old }
+    {
+        if self.different.is_some() {
+            return false;
+        }
+        match &mut self.held {
+            Accumulator::Count(count) => add_rows(count, more),
+            _ => false,
+        }
     }
 
     /// Takes in one row more. A plain count makes no value of it.

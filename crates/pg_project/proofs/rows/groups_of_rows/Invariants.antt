@@ -1,4 +1,4 @@
-use Rattle.std.proofs.Common.{◌≡◌, drop, length, map}
+use Rattle.std.proofs.Common.{◌≡◌, ◌-◌, drop, length, map}
 use Rattle.pg_project.specs.Items.{aggregates_in, expressions_view, keys_in}
 use Rattle.pg_project.specs.Alike.{IsLatest}
 use Rattle.pg_project.specs.Kept.{answers_at, first_kept, kept_rows}
@@ -15,3 +15,6 @@ invariant-loop-at g l =
     ≡ kept_rows (parameters_view l.scope.query.now.parameters.now) l.graph l.scope.names.now es (groups_view (length l.items.aggregates.items) l.groups) (drop l.at (table l.rows)))
     × Paired (length l.items.aggregates.items) l.groups
     × IsLatest (answers_at (parameters_view l.scope.query.now.parameters.now) l.graph l.scope.names.now (map view l.before)) (keys_in es) l.groups
+
+abbrev pub decreases-loop-at : goal.decreases-loop-at
+decreases-loop-at g l = length (table l.rows) - l.at

@@ -21,3 +21,4 @@ pub mod Indexed
 pub mod Filling
 pub mod Listings
 pub mod BlankPlaces
+pub mod Typing

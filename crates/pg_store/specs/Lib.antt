@@ -8,5 +8,6 @@ pub mod Listing
 pub mod Merged
 pub mod Noted
 pub mod Stores
+pub mod Typed
 pub mod Views
 pub mod Wanted

@@ -20,6 +20,7 @@ mod settling;
 mod shared;
 mod store;
 mod texts;
+mod typed;
 mod views;
 mod wanted;
 
@@ -33,4 +34,5 @@ pub use sets::Sets;
 pub use shared::Shared;
 pub use store::{Store, law_of_other_stores, law_of_stores};
 pub use texts::{NodeTexts, RelTexts};
+pub use typed::Typed;
 pub use views::{NodeView, RelView};

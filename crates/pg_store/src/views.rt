@@ -5,9 +5,9 @@ ghost use Rattle.pg_meaning.specs.Entries.{at_key};
 ghost use Rattle.pg_meaning.specs.Graph.{has_node, node_at, other_end, relationship_at};
 ghost use Rattle.pg_meaning.specs.Names.{is_among};
 ghost use Rattle.pg_graph.specs.InOrder.{listed_entries};
-ghost use Rattle.pg_graph.specs.Refinement.{node_of};
+ghost use Rattle.pg_graph.specs.Refinement.{node_of, relationship_of};
 ghost use Rattle.pg_store.specs.Stores.{node_texts_view, rel_texts_view};
-ghost use Rattle.pg_store.specs.Views.{IsNamedNode};
+ghost use Rattle.pg_store.specs.Views.{IsNamedNode, IsNamedRel};
 ghost use Rattle.pg_value_core.specs.View.{view};
 
 use crate::graph_view::GraphView;
@@ -121,6 +121,18 @@ impl<'a, T: Tables> Model for RelView<'a, T> {
 }
 
 impl<'a, T: Tables> RelView<'a, T> {
+    // The record of a relationship as one to read.
+    #[inline(always)]
+    pub(crate) fn of(shared: &'a Shared<T::Shared>, rel: &'a RelRecord) -> Self
+        requires { IsNamedRel shared.now.names rel.now }
+        ensures { result ≡ relationship_of shared.now.names rel.now }
+    {
+        RelView {
+            shared,
+            record: rel,
+        }
+    }
+
     /// The text of the type.
     pub fn kind(&self) -> &'a str
         ensures { result.now ≡ self.now.type }

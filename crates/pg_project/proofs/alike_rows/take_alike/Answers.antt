@@ -34,17 +34,17 @@ returns-clause-ok g c =
     let after = c.take_again.new.self in
     let rows = table grouping.rows.now in
     let row = map view context.row.now in
-    let group = c.requires.group in
+    let group = c.requires.standing.group in
     let unchanged : Unchanged old now = record { taken = c.in_default.ensures.none; keys = c.count_alike.ensures.keys } in
     let number = subst (λ ks. HasNumber ks.keys group.key c.args.number) (sym c.count_alike.ensures.keys) group.number in
-    let taken = with_key at es (groups_view each now) group.key group.is ∙ ap (λ aggregates. into_kept at aggregates group.key (groups_view each now)) (sym c.requires.ready.aggregates) ∙ c.in_ok-take_again.ensures.ok group.key number in
+    let taken = with_key at es (groups_view each now) group.key group.is ∙ ap (λ aggregates. into_kept at aggregates group.key (groups_view each now)) (sym c.requires.standing.ready.aggregates) ∙ c.in_ok-take_again.ensures.ok group.key number in
     ap (λ gs. kept_rows (parameters_view context.parameters.now) c.args.graph.now names es gs (drop c.args.at rows)) (same_views each old now unchanged)
-    ∙ step_on (λ gs r. kept_row (answers_at (parameters_view context.parameters.now) c.args.graph.now names r) es gs) rows c.args.at row c.requires.here (groups_view each now) (groups_view each after) taken
+    ∙ step_on (λ gs r. kept_row (answers_at (parameters_view context.parameters.now) c.args.graph.now names r) es gs) rows c.args.at row c.requires.standing.here (groups_view each now) (groups_view each after) taken
     ∙ ap (λ n. kept_rows (parameters_view context.parameters.now) c.args.graph.now names es (groups_view each after) (drop n rows)) (sym c.in-Some-checked_add.ensures.1)
 
 pub returns-clause-paired : goal.returns-clause-paired
 returns-clause-paired g c =
-    let group = c.requires.group in
+    let group = c.requires.standing.group in
     c.in_ok-take_again.ensures.paired group.key (subst (λ ks. HasNumber ks.keys group.key c.args.number) (sym c.count_alike.ensures.keys) group.number)
 
 pub returns-in_err-take_again-clause-err : goal.returns-in_err-take_again-clause-err
@@ -59,12 +59,12 @@ returns-in_err-take_again-clause-err g c =
     let now = c.count_alike.new.groups in
     let rows = table grouping.rows.now in
     let row = map view context.row.now in
-    let group = c.requires.group in
+    let group = c.requires.standing.group in
     let f = c.in_err-take_again.field-0.0 in
     let unchanged : Unchanged old now = record { taken = c.in_default.ensures.none; keys = c.count_alike.ensures.keys } in
     let number = subst (λ ks. HasNumber ks.keys group.key c.args.number) (sym c.count_alike.ensures.keys) group.number in
     fault_passed _ f c.from_residual.result c.from_residual.ensures.1
     (λ other.
     ap (λ gs. kept_rows (parameters_view context.parameters.now) c.args.graph.now names es gs (drop c.args.at rows)) (same_views each old now unchanged)
-    ∙ step_fault (λ gs r. kept_row (answers_at (parameters_view context.parameters.now) c.args.graph.now names r) es gs) rows c.args.at row c.requires.here (groups_view each now) f
-    (with_key at es (groups_view each now) group.key group.is ∙ ap (λ aggregates. into_kept at aggregates group.key (groups_view each now)) (sym c.requires.ready.aggregates) ∙ c.in_err-take_again.ensures.err group.key number other))
+    ∙ step_fault (λ gs r. kept_row (answers_at (parameters_view context.parameters.now) c.args.graph.now names r) es gs) rows c.args.at row c.requires.standing.here (groups_view each now) f
+    (with_key at es (groups_view each now) group.key group.is ∙ ap (λ aggregates. into_kept at aggregates group.key (groups_view each now)) (sym c.requires.standing.ready.aggregates) ∙ c.in_err-take_again.ensures.err group.key number other))

@@ -46,20 +46,20 @@ returns g c =
 pub take_row-requires-clause-paired : goal.take_row-requires-clause-paired
 take_row-requires-clause-paired g c = c.loop-at.invariant.1
 
-pub take_alike-requires-clause-paired : goal.take_alike-requires-clause-paired
-take_alike-requires-clause-paired g c = c.loop-at.invariant.1
-
-pub take_alike-requires-clause-here : goal.take_alike-requires-clause-here
-take_alike-requires-clause-here g c = c.row.ensures
-
-pub take_alike-requires-clause-group : goal.take_alike-requires-clause-group
-take_alike-requires-clause-group g c =
+pub take_alike-requires-clause-standing : goal.take_alike-requires-clause-standing
+take_alike-requires-clause-standing g c =
     let parameters = parameters_view c.args.scope.now.query.now.parameters.now in
     let names = c.args.scope.now.names.now in
     let es = expressions_view c.args.expressions.now.items in
     let columns = c.in_ok-key_columns.field-0 in
     let reads = subst (λ ks. IfSome columns (λ cs. ReadEach names ks cs.items)) c.requires.keys c.in_ok-key_columns.ensures in
-    group_stays parameters c.args.graph.now names (map view c.row.result.now) (map view c.loop-at.before.now) columns (keys_in es) reads c.in-Some.ensures.alike c.loop-at.groups.keys.keys c.loop-at.groups.latest c.in-Some.number c.in-Some.ensures.latest c.loop-at.invariant.2
+    record {
+      ready = c.requires;
+      columns = c.in_ok-key_columns.ensures;
+      paired = c.loop-at.invariant.1;
+      group = group_stays parameters c.args.graph.now names (map view c.row.result.now) (map view c.loop-at.before.now) columns (keys_in es) reads c.in-Some.ensures.alike c.loop-at.groups.keys.keys c.loop-at.groups.latest c.in-Some.number c.in-Some.ensures.latest c.loop-at.invariant.2;
+      here = c.row.ensures;
+    }
 
 pub loop-at-preserved : goal.loop-at-preserved
 loop-at-preserved g c =

@@ -6,6 +6,7 @@ pub mod Comments
 pub mod Contents
 pub mod Contract
 pub mod Hexadecimals
+pub mod Lengths
 pub mod Lexing
 pub mod Longest
 pub mod Pairs

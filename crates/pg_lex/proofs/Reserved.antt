@@ -56,7 +56,7 @@ abbrev ascii_keys : List (List ℕ × Keyword) → Bool
 ascii_keys [] = true
 ascii_keys (p ∷ ps) = are_ascii p.0 && ascii_keys ps
 
-abbrev pick : Bool → Keyword → Option Keyword → Option Keyword
+abbrev pub pick : Bool → Keyword → Option Keyword → Option Keyword
 pick t k o = elim t [ true ↦ Some k | false ↦ o ]
 
 among_same : (ps : List (List ℕ × Keyword)) (cs : List ℕ) → ascii_keys ps ≡ true → keyword_among ps (map to_ascii_lowercase (utf8 cs)) ≡ keyword_among ps (map to_ascii_lowercase cs)

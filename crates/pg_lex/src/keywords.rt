@@ -6,47 +6,63 @@ ghost use Rattle.pg_meaning.specs.Tokens as spec;
 
 use pg_meaning::Keyword;
 
-const KEYWORDS: [(&str, Keyword); 40] = [
-    ("and", Keyword::And),
+// The keywords, by how many letters they have.
+const OF_TWO: [(&str, Keyword); 6] = [
     ("as", Keyword::As),
-    ("asc", Keyword::Asc),
-    ("ascending", Keyword::Ascending),
     ("by", Keyword::By),
-    ("case", Keyword::Case),
-    ("contains", Keyword::Contains),
-    ("create", Keyword::Create),
-    ("delete", Keyword::Delete),
-    ("desc", Keyword::Desc),
-    ("descending", Keyword::Descending),
-    ("detach", Keyword::Detach),
-    ("distinct", Keyword::Distinct),
-    ("else", Keyword::Else),
-    ("end", Keyword::End),
-    ("ends", Keyword::Ends),
-    ("false", Keyword::False),
     ("in", Keyword::In),
     ("is", Keyword::Is),
+    ("on", Keyword::On),
+    ("or", Keyword::Or),
+];
+
+const OF_THREE: [(&str, Keyword); 6] = [
+    ("and", Keyword::And),
+    ("asc", Keyword::Asc),
+    ("end", Keyword::End),
+    ("not", Keyword::Not),
+    ("set", Keyword::Set),
+    ("xor", Keyword::Xor),
+];
+
+const OF_FOUR: [(&str, Keyword); 10] = [
+    ("case", Keyword::Case),
+    ("desc", Keyword::Desc),
+    ("else", Keyword::Else),
+    ("ends", Keyword::Ends),
+    ("null", Keyword::Null),
+    ("skip", Keyword::Skip),
+    ("then", Keyword::Then),
+    ("true", Keyword::True),
+    ("when", Keyword::When),
+    ("with", Keyword::With),
+];
+
+const OF_FIVE: [(&str, Keyword); 6] = [
+    ("false", Keyword::False),
     ("limit", Keyword::Limit),
     ("match", Keyword::Match),
     ("merge", Keyword::Merge),
-    ("not", Keyword::Not),
-    ("null", Keyword::Null),
-    ("on", Keyword::On),
-    ("optional", Keyword::Optional),
-    ("or", Keyword::Or),
     ("order", Keyword::Order),
+    ("where", Keyword::Where),
+];
+
+const OF_SIX: [(&str, Keyword); 7] = [
+    ("create", Keyword::Create),
+    ("delete", Keyword::Delete),
+    ("detach", Keyword::Detach),
     ("remove", Keyword::Remove),
     ("return", Keyword::Return),
-    ("set", Keyword::Set),
-    ("skip", Keyword::Skip),
     ("starts", Keyword::Starts),
-    ("then", Keyword::Then),
-    ("true", Keyword::True),
     ("unwind", Keyword::Unwind),
-    ("when", Keyword::When),
-    ("where", Keyword::Where),
-    ("with", Keyword::With),
-    ("xor", Keyword::Xor),
+];
+
+const LONGER: [(&str, Keyword); 5] = [
+    ("ascending", Keyword::Ascending),
+    ("contains", Keyword::Contains),
+    ("descending", Keyword::Descending),
+    ("distinct", Keyword::Distinct),
+    ("optional", Keyword::Optional),
 ];
 
 /// The keyword of those that a word is, whatever the ASCII case of either.
@@ -64,9 +80,16 @@ fn keyword_among(keywords: &[(&str, Keyword)], word: &str) -> Option<Keyword>
 }
 
 /// The keyword that a word is, whatever its ASCII case.
-#[tactic(auto, unfolding(pg_meaning::specs::Tokens::keyword_of, pg_meaning::specs::Tokens::keywords))]
 pub(crate) fn keyword_of(word: &str) -> Option<Keyword>
     ensures { result ≡ spec.keyword_of word.now }
 {
-    keyword_among(&KEYWORDS, word)
+    match word.len() {
+        0 | 1 => None,
+        2 => keyword_among(&OF_TWO, word),
+        3 => keyword_among(&OF_THREE, word),
+        4 => keyword_among(&OF_FOUR, word),
+        5 => keyword_among(&OF_FIVE, word),
+        6 => keyword_among(&OF_SIX, word),
+        _ => keyword_among(&LONGER, word),
+    }
 }

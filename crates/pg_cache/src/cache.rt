@@ -92,6 +92,7 @@ impl<S: BuildHasher + Drop> PlanCache<S> {
     }
 
     /// A plan for a key that has none here.
+    #[inline(never)]
     fn make_plan(&mut self, alloc: Global, key: Key) -> Result<Rc<Plan>, Fault>
         requires { kept self.old (key_view key) ≡ None }
         ensures ok { IfOk result (λ p. IsPlanOfText (key_view key).0 (key_view key).1 p.value) }

@@ -99,6 +99,15 @@ impl Labels {
         if labels.len() <= FEW {
             return has_text(labels, names, text);
         }
+        self.contains_named(names, text)
+    }
+
+    // The same of many, by the number of the text.
+    #[inline(never)]
+    fn contains_named<K: TextSet>(&self, names: &Names<K>, text: &str) -> bool
+        requires { AreNamed names.now self.now }
+        ensures { result ≡ is_among (label_texts names.now self.now) text.now }
+    {
         match names.find(text) {
             Some(name) => self.contains(name),
             None => false,
@@ -225,6 +234,16 @@ impl Properties {
         if entries.len() <= FEW {
             return value_of_text(entries, names, key);
         }
+        self.get_named(names, key)
+    }
+
+    // The same of many, by the number of the text.
+    #[inline(never)]
+    fn get_named<K: TextSet>(&self, names: &Names<K>, key: &str) -> Option<&Value>
+        requires { AreNamed names.now (map.keys self.now) }
+        ensures { option_map (λ v. view v.now) result
+            ≡ at_key key.now (property_entries names.now self.now) }
+    {
         match names.find(key) {
             Some(name) => shown(self.get(name)),
             None => None,

@@ -100,9 +100,17 @@ impl Columns {
     pub fn find(&self, name: &str) -> Option<usize>
         ensures { result ≡ position (bytes_eq name.now) self.now }
     {
-        if self.rising > FEW
-            && let Some(at) = place_among(&self.names[..self.rising], name)
-        {
+        if self.rising > FEW {
+            return self.find_among(name);
+        }
+        self.find_first(name)
+    }
+
+    #[inline(never)]
+    fn find_among(&self, name: &str) -> Option<usize>
+        ensures { result ≡ position (bytes_eq name.now) self.now }
+    {
+        if let Some(at) = place_among(&self.names[..self.rising], name) {
             return Some(at);
         }
         self.find_first(name)

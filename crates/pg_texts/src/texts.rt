@@ -14,9 +14,17 @@ pub fn same_text(one: &str, other: &str) -> bool
         return false;
     }
     if one.len() > SHORT {
-        return one == other;
+        return same_long(one, other);
     }
     same_bytes(one.as_bytes(), other.as_bytes())
+}
+
+// Apart, so that what compares names stays small.
+#[inline(never)]
+fn same_long(one: &str, other: &str) -> bool
+    ensures { result ≡ bytes_eq one.now other.now }
+{
+    one == other
 }
 
 #[inline(always)]

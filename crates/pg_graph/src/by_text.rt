@@ -1,5 +1,5 @@
 //! Labels and properties by the texts of their names.
-ghost use Rattle.std.specs.Prelude.{◌≡◌, ◌<◌, ◌&&◌, ◌∷◌, [], map as map_list, filter, length, not, OnOk, OnErr, IfOk};
+ghost use Rattle.std.specs.Prelude.{◌≡◌, ◌<◌, ◌≤◌, ◌&&◌, ◌∷◌, [], map as map_list, filter, length, not, OnOk, OnErr, IfOk};
 ghost use Rattle.std.specs.FinMap as map;
 ghost use Rattle.std.specs.Option.{option_map};
 ghost use Rattle.std.specs.Str.{bytes_eq};
@@ -15,7 +15,7 @@ ghost use Rattle.pg_value_core.specs.View.{view, entries_view};
 use crate::labels::Labels;
 use crate::properties::Properties;
 use pg_names::{NameId, Names, TextSet};
-use pg_texts::same_text;
+use pg_texts::{is_short, same_short};
 use pg_value_core::Value;
 use std::alloc::{AllocError, Global};
 use std::collections::{BTreeMap, BTreeSet};
@@ -96,13 +96,13 @@ impl Labels {
         ensures { result ≡ is_among (label_texts names.now self.now) text.now }
     {
         let labels = self.as_slice();
-        if labels.len() <= FEW {
+        if labels.len() <= FEW && is_short(text) {
             return has_text(labels, names, text);
         }
         self.contains_named(names, text)
     }
 
-    // The same of many, by the number of the text.
+    // The same of many, or of a long text, by its number.
     #[inline(never)]
     fn contains_named<K: TextSet>(&self, names: &Names<K>, text: &str) -> bool
         requires { AreNamed names.now self.now }
@@ -125,11 +125,12 @@ fn one_text<'a>(alloc: Global, text: &'a str) -> Result<Vec<&'a str>, AllocError
 
 // Whether one of these numbers has this text.
 fn has_text<K: TextSet>(labels: &[NameId], names: &Names<K>, text: &str) -> bool
-    requires { AreNamed names.now labels.now }
+    requires named { AreNamed names.now labels.now }
+    requires short { length text.now ≤ 16 }
     ensures { result ≡ list_any (bytes_eq text.now) (map_list (text_of names.now) labels.now) }
 {
     for label in labels {
-        if same_text(text, names.text(*label)) {
+        if same_short(text, names.text(*label)) {
             return true;
         }
     }
@@ -142,7 +143,8 @@ fn value_of_text<'a, K: TextSet>(
     names: &Names<K>,
     key: &str,
 ) -> Option<&'a Value>
-    requires { AreNamed names.now (map_list (λ e. e.0) (seen_entries entries.now)) }
+    requires named { AreNamed names.now (map_list (λ e. e.0) (seen_entries entries.now)) }
+    requires short { length key.now ≤ 16 }
     ensures { option_map (λ v. view v.now) result
         ≡ at_key key.now (named_entries names.now (seen_entries entries.now)) }
 {
@@ -156,11 +158,12 @@ fn value_of_text<'a, K: TextSet>(
 
 // Whether a value under a key is shown at this text.
 fn is_shown_at<K: TextSet>(names: &Names<K>, name: NameId, value: &Value, key: &str) -> bool
-    requires { name < length names.now }
+    requires named { name < length names.now }
+    requires short { length key.now ≤ 16 }
     ensures { result
         ≡ (bytes_eq key.now (text_of names.now name) && not (is_null (view value.now))) }
 {
-    same_text(key, names.text(name)) && !is_null(value)
+    same_short(key, names.text(name)) && !is_null(value)
 }
 
 // What stands under a key, if it is not blank.
@@ -231,13 +234,13 @@ impl Properties {
             ≡ at_key key.now (property_entries names.now self.now) }
     {
         let entries = self.entries();
-        if entries.len() <= FEW {
+        if entries.len() <= FEW && is_short(key) {
             return value_of_text(entries, names, key);
         }
         self.get_named(names, key)
     }
 
-    // The same of many, by the number of the text.
+    // The same of many, or of a long text, by its number.
     #[inline(never)]
     fn get_named<K: TextSet>(&self, names: &Names<K>, key: &str) -> Option<&Value>
         requires { AreNamed names.now (map.keys self.now) }

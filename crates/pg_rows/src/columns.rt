@@ -1,12 +1,12 @@
 //! The names of the columns of rows.
 ghost use Rattle.std.specs.Bool.{Decides};
 ghost use Rattle.std.specs.List.Sorted.{IsStrictlySortedBy};
-ghost use Rattle.std.specs.Prelude.{◌≡◌, ◌<◌, ◌++◌, ◌∷◌, List, ℕ, [], None, Some, cond, true, length, map, position, bytes_eq, string_bytes, slice_get, OnOk, OnErr};
+ghost use Rattle.std.specs.Prelude.{◌≡◌, ◌<◌, ◌≤◌, ◌++◌, ◌∷◌, List, ℕ, [], None, Some, cond, true, length, map, position, bytes_eq, string_bytes, slice_get, OnOk, OnErr};
 ghost use Rattle.pg_meaning.specs.Order.{text_order};
 ghost use Rattle.pg_rows.specs.Named.{AreFirsts, with_name};
 ghost use Rattle.pg_rows.specs.Rising.{IsLastBelow};
 
-use pg_texts::same_text;
+use pg_texts::{is_short, same_short, same_text};
 use std::alloc::{AllocError, Global};
 use std::cmp::Ordering;
 use std::marker::Model;
@@ -100,10 +100,10 @@ impl Columns {
     pub fn find(&self, name: &str) -> Option<usize>
         ensures { result ≡ position (bytes_eq name.now) self.now }
     {
-        if self.rising > FEW {
+        if self.rising > FEW || !is_short(name) {
             return self.find_among(name);
         }
-        self.find_first(name)
+        self.find_short(name)
     }
 
     #[inline(never)]
@@ -125,6 +125,19 @@ impl Columns {
             return Some(place);
         }
         self.find(name)
+    }
+
+    #[tactic(auto, using(crate::proofs::NamedRows::first_named))]
+    fn find_short(&self, name: &str) -> Option<usize>
+        requires { length name.now ≤ 16 }
+        ensures { result ≡ position (bytes_eq name.now) self.now }
+    {
+        for (at, held) in self.names.iter().enumerate() {
+            if same_short(name, held.as_str()) {
+                return Some(at);
+            }
+        }
+        None
     }
 
     #[tactic(auto, using(crate::proofs::NamedRows::first_named))]

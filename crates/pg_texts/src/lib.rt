@@ -3,4 +3,4 @@
 
 mod texts;
 
-pub use texts::same_text;
+pub use texts::{is_short, same_short, same_text};

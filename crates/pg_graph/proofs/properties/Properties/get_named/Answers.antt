@@ -1,6 +1,6 @@
 use Rattle.std.proofs.Common.{sym, ap, ◌∙◌}
 use Rattle.pg_graph.proofs.NamedChanges.{property_found, property_missing}
-use Rattle.pg_graph.proofs.properties.Properties.get_text.Goals as goal
+use Rattle.pg_graph.proofs.properties.Properties.get_named.Goals as goal
 use Rattle.pg_graph.specs.Records.{shown}
 
 pub returns-in-Some : goal.returns-in-Some

@@ -5,7 +5,7 @@ use Rattle.std.specs.List.Sorted.{IsStrictlySortedBy}
 use Rattle.pg_meaning.specs.Order.{text_order}
 use Rattle.pg_rows.proofs.NamedRows.{first_place}
 use Rattle.pg_rows.proofs.Rising.{found_first}
-use Rattle.pg_rows.proofs.columns.Columns.find.Goals as goal
+use Rattle.pg_rows.proofs.columns.Columns.find_among.Goals as goal
 
 pub place_among-requires : goal.place_among-requires
 place_among-requires c =
@@ -14,8 +14,8 @@ place_among-requires c =
     let part : take n (map string_bytes items) ≡ map string_bytes (take n c.deref.result.now) = take-map string_bytes n items ∙ ap (λ xs. map string_bytes (take n xs)) (sym c.deref.ensures.value) in
     subst (IsStrictlySortedBy text_order) part c.self.invariant.0.1
 
-pub returns : goal.returns
-returns c =
+pub returns-in-Some : goal.returns-in-Some
+returns-in-Some c =
     let n = c.self.inside.rising in
     let items = c.self.inside.names.items in
     let t = bytes_eq c.args.name.now in

@@ -52,6 +52,8 @@ impl Model for IdSet {
 }
 
 impl IdStorage {
+    // (what is gone is mostly nothing, and is asked for at each element that is read)
+    #[inline(always)]
     fn contains(&self, id: u64) -> bool
         requires { IsHeld self.now }
         ensures { result ≡ list_any (λ n. n == id) (ids_of self.now) }
@@ -182,6 +184,7 @@ impl IdSet {
         }
     }
 
+    #[inline(always)]
     pub fn contains(&self, id: u64) -> bool
         ensures { result ≡ map.contains_key self.now id }
     {

@@ -211,6 +211,7 @@ fn run_of(runs: &[Run], id: u64) -> Option<usize>
     }
 }
 
+#[inline(never)]
 pub fn has(runs: &[Run], id: u64) -> bool
     requires { AreRuns runs.now }
     ensures { result ≡ list_any (λ n. n == id) (flattened runs.now) }

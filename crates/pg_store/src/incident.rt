@@ -80,6 +80,7 @@ impl<'a> Model for Incident<'a> {
 
 impl<'a> Incident<'a> {
     /// The next id, if there is one more.
+    #[inline(always)]
     pub fn next(&mut self) -> Option<RelId>
         ensures some { IfSome result (λ id. self.old ≡ id.0 ∷ self.new) }
         ensures none { IfNone result (self.old ≡ []) }

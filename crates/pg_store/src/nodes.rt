@@ -56,6 +56,7 @@ impl<'a, T: Tables> Nodes<'a, T> {
     }
 
     /// The next id, if there is one more. Its record is looked at only where something is noted among the sets of ids.
+    #[inline(always)]
     pub fn next(&mut self) -> Option<NodeId>
         ensures some { IfSome result (λ id. self.old.ids ≡ id.0 ∷ self.new.ids) }
         ensures none { IfNone result (self.old.ids ≡ []) }

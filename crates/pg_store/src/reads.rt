@@ -14,6 +14,7 @@ use pg_value_core::{NodeId, RelId};
 
 impl<T: Tables> Store<T> {
     // The record of a node that is there.
+    #[inline(always)]
     pub(crate) fn node<'a>(
         &'a self,
         shared: &'a Shared<T::Shared>,
@@ -52,6 +53,7 @@ impl<T: Tables> Store<T> {
     }
 
     // The record of a relationship that is there.
+    #[inline(always)]
     pub(crate) fn rel<'a>(
         &'a self,
         shared: &'a Shared<T::Shared>,

@@ -203,6 +203,7 @@ impl<'a, T: Tables> RelView<'a, T> {
 
 impl<'a, T: Tables> GraphView<'a, T> {
     /// A node, if it is there.
+    #[inline(always)]
     pub fn node(&self, id: NodeId) -> Option<NodeView<'a, T>>
         ensures { result ≡ node_at self.now id.0 }
     {
@@ -216,6 +217,7 @@ impl<'a, T: Tables> GraphView<'a, T> {
     }
 
     /// A relationship, if it is there, and so both its ends.
+    #[inline(always)]
     pub fn rel(&self, id: RelId) -> Option<RelView<'a, T>>
         ensures is { result ≡ relationship_at self.now id.0 }
         ensures source { IfSome result (λ rel. has_node self.now rel.source ≡ true) }

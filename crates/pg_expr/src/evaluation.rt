@@ -3,7 +3,7 @@ ghost use Rattle.std.specs.Prelude.{map, option_map, string_bytes};
 ghost use Rattle.pg_expr.specs.Calls.{given_call, given_size};
 ghost use Rattle.pg_expr.specs.Kinds.{IsCase, IsChain, AreTests, AreSuffixes};
 ghost use Rattle.pg_expr.specs.Prepared.{tree_of};
-ghost use Rattle.pg_expr.specs.Reads.{given_property};
+ghost use Rattle.pg_expr.specs.Reads.{given_item, given_property};
 ghost use Rattle.pg_expr.specs.Scalars.{scalar_view, Tells};
 ghost use Rattle.pg_expr.specs.Contexts.{found_view, founds_view, pairs_view, given, given_each, given_map, given_first, given_true, given_chain, given_operands, row_at};
 ghost use Rattle.pg_meaning.specs.Expressions.{evaluate, or_fault};
@@ -24,9 +24,11 @@ use crate::operators::{
     all_signed, begins_comparison, combined, compared, compared_once, is_chosen, negated,
     null_tested, tested,
 };
-use crate::plain_operands::plain;
+use crate::plain_operands::{plain, variable_and_key, variable_and_place};
 use crate::prepared::{Form, Prepared};
-use crate::reads::{column_property, index, labels, node_column_property, property};
+use crate::reads::{
+    column_item, column_property, index, labels, list_column_item, property, property_in_column,
+};
 use crate::row_context::RowContext;
 use crate::scalar::{Scalar, copied, is_untold, text_copied};
 use crate::scalar_evaluation::scalar;
@@ -76,6 +78,7 @@ pub fn evaluate_at<T: Tables>(
 {
     match prepared.form {
         Form::Property(name, key, near) => property_copied(context, graph, name, key, near),
+        Form::Item(name, place, near) => item_copied(context, graph, name, place, near),
         Form::Other(tree, true) => told_at(context, graph, tree),
         Form::Other(tree, false) => found_at(context, graph, tree),
         Form::Column(name, near) => column_copied(context, name, near),
@@ -94,7 +97,7 @@ fn property_copied<T: Tables>(
     ensures { Gives result (given_property context.now graph.now
         (string_bytes name.now.text) (string_bytes key.now.text)) view }
 {
-    match node_column_property(context, graph, name, key, near) {
+    match property_in_column(context, graph, name, key, near) {
         // (the most frequent value, which takes no memory of its own)
         Some(Some(Value::Int(i))) => Ok(Value::Int(*i)),
         Some(Some(value)) => copied(context.alloc, value),
@@ -103,7 +106,7 @@ fn property_copied<T: Tables>(
     }
 }
 
-/// The same of whatever is no node.
+/// The same of whatever is no node and no map.
 #[inline(never)]
 fn other_property_copied<T: Tables>(
     context: &RowContext<'_>,
@@ -116,6 +119,41 @@ fn other_property_copied<T: Tables>(
         (string_bytes name.now.text) (string_bytes key.now.text)) view }
 {
     Ok(column_property(context, graph, name, key, near)?.take(context.alloc)?)
+}
+
+/// `variable[place]`, as a value of its own.
+#[inline(never)]
+fn item_copied<T: Tables>(
+    context: &RowContext<'_>,
+    graph: &GraphView<'_, T>,
+    name: &Name,
+    place: usize,
+    near: usize,
+) -> Result<Value, Fault>
+    ensures { Gives result (given_item context.now graph.now
+        (string_bytes name.now.text) place) view }
+{
+    match list_column_item(context, graph, name, place, near) {
+        Some(Some(Value::Int(i))) => Ok(Value::Int(*i)),
+        Some(Some(value)) => copied(context.alloc, value),
+        Some(None) => Ok(Value::Null),
+        None => other_item_copied(context, graph, name, place, near),
+    }
+}
+
+/// The same of whatever is no list.
+#[inline(never)]
+fn other_item_copied<T: Tables>(
+    context: &RowContext<'_>,
+    graph: &GraphView<'_, T>,
+    name: &Name,
+    place: usize,
+    near: usize,
+) -> Result<Value, Fault>
+    ensures { Gives result (given_item context.now graph.now
+        (string_bytes name.now.text) place) view }
+{
+    Ok(column_item(context, graph, name, place, near)?.take(context.alloc)?)
 }
 
 /// What a column holds, as a value of its own.
@@ -152,6 +190,13 @@ pub fn evaluate_once<T: Tables>(
         (parameters_view context.now.parameters.now) graph.now
         (expression_view expression.now)) view }
 {
+    // (rows that UNWIND makes of lists or of maps are read so, and mostly stand in the first column)
+    if let Some((name, place)) = variable_and_place(expression) {
+        return item_copied(context, graph, name, place, 0);
+    }
+    if let Some((name, key)) = variable_and_key(expression) {
+        return property_copied(context, graph, name, key, 0);
+    }
     let read = plain(context, graph, expression);
     if is_untold(read) {
         return evaluate_other(context, expression, graph);
@@ -231,11 +276,15 @@ pub fn find_at<'a, T: Tables>(
 {
     match prepared.form {
         Form::Column(name, near) => column(context, name, near),
-        Form::Property(name, key, near) => match node_column_property(
+        Form::Property(name, key, near) => match property_in_column(
             context, graph, name, key, near,
         ) {
             Some(held) => Ok(lent_or_null(held)),
             None => column_property(context, graph, name, key, near),
+        },
+        Form::Item(name, place, near) => match list_column_item(context, graph, name, place, near) {
+            Some(held) => Ok(lent_or_null(held)),
+            None => column_item(context, graph, name, place, near),
         },
         Form::Other(tree, tells) => find_other_at(context, graph, tree, tells),
     }

@@ -12,7 +12,7 @@ ghost use Rattle.pg_value_core.specs.declared.value.Value.{Value};
 use crate::atoms::held_near;
 use crate::evaluation::evaluate_at;
 use crate::prepared::{Form, Prepared};
-use crate::reads::node_column_property;
+use crate::reads::{list_column_item, property_in_column};
 use crate::row_context::RowContext;
 use pg_graph::Tables;
 use pg_meaning::Fault;
@@ -22,7 +22,8 @@ use pg_syntax_tree::Name;
 use pg_value_core::Value;
 use std::alloc::{AllocError, Global};
 
-/// What an expression reads at a row, if it reads a column, or a property of the node in one; without such a property it is null.
+/// What an expression reads at a row, if it reads a column, or a property of the node or an item of the list in one; without such a
+/// property or item it is null.
 #[inline(always)]
 pub fn lent_at<'a, T: Tables>(
     context: &RowContext<'a>,
@@ -34,8 +35,9 @@ pub fn lent_at<'a, T: Tables>(
         ≡ Ok (unwrap_or (option_map (λ v. view v.now) held) null)) }
 {
     match prepared.form {
-        Form::Property(name, key, near) => node_column_property(context, graph, name, key, near),
+        Form::Property(name, key, near) => property_in_column(context, graph, name, key, near),
         Form::Column(name, near) => column_lent(context, graph, name, near),
+        Form::Item(name, place, near) => list_column_item(context, graph, name, place, near),
         Form::Other(_, _) => None,
     }
 }

@@ -24,6 +24,6 @@ pub fn read_column(prepared: &Prepared<'_>, names: &Columns) -> Option<usize>
     match prepared.form {
         Form::Column(name, near) => names.find_near(near, name.text.as_str()),
         Form::Property(name, _, near) => names.find_near(near, name.text.as_str()),
-        Form::Other(_, _) => None,
+        Form::Item(_, _, _) | Form::Other(_, _) => None,
     }
 }

@@ -18,12 +18,13 @@ pub struct Prepared<'a> {
     pub(crate) form: Form<'a>,
 }
 
-/// What a prepared expression is: a variable, or a property of one, each with the place where its column mostly stands; or any
-/// expression, and whether scalars are asked first.
+/// What a prepared expression is: a variable, a property of one, or the item at a place of one, each with the place where its column
+/// mostly stands; or any expression, and whether scalars are asked first.
 #[derive(Clone, Copy)]
 pub(crate) enum Form<'a> {
     Column(&'a Name, usize),
     Property(&'a Name, &'a Name, usize),
+    Item(&'a Name, usize, usize),
     Other(&'a Expression, bool),
 }
 
@@ -50,15 +51,10 @@ fn form_of<'a>(expression: &'a Expression, names: &Columns) -> Form<'a>
     if let Some((name, key)) = variable_and_key(expression) {
         return Form::Property(name, key, near(names, name));
     }
-    other(expression)
-}
-
-/// Whatever reads no column alone.
-fn other<'a>(expression: &'a Expression) -> Form<'a>
-    ensures { form_tree result ≡ expression_view expression.now }
-{
-    let tells = may_tell(expression) || variable_and_place(expression).is_some();
-    Form::Other(expression, tells)
+    if let Some((name, place)) = variable_and_place(expression) {
+        return Form::Item(name, place, near(names, name));
+    }
+    Form::Other(expression, may_tell(expression))
 }
 
 /// Where the column of a name stands among few; else any place.

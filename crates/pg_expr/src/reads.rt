@@ -1,7 +1,7 @@
 //! What is read of a value: a property, an item, labels.
 ghost use Rattle.std.specs.Prelude.{◌≡◌, ◌≢◌, ◌==◌, IfOk, IfErr, IfSome, Ok, Err, false, map, option_map, string_bytes, unwrap_or, vec_len};
 ghost use Rattle.pg_expr.specs.After.{After};
-ghost use Rattle.pg_expr.specs.Reads.{given_property, labels_tested};
+ghost use Rattle.pg_expr.specs.Reads.{given_item, given_property, labels_tested};
 ghost use Rattle.pg_expr.specs.Contexts.{found_view};
 ghost use Rattle.std.specs.List.{list_all};
 ghost use Rattle.pg_meaning.specs.Names.{is_among};
@@ -58,7 +58,7 @@ fn relationship_property<'a, T: Tables>(
 fn entry<'a>(map: &'a Rc<BTreeMap<String, Value>>, key: &str) -> ValueRef<'a>
     ensures { found_view result ≡ value_at key.now (entries_view map.now.value.entries) }
 {
-    lent_or_null(map.as_ref().get(key))
+    lent_or_null(entry_lent(map, key))
 }
 
 /// `v.key`.
@@ -99,9 +99,10 @@ fn property_lent<'a, T: Tables>(
     }
 }
 
-/// What a node has under a key, if anything, where the column that mostly stands at this place has a node. Most reads are such.
+/// What the node or the map in a column has under a key, if anything, where the column mostly stands at this place. Most reads are
+/// of nodes.
 #[inline(always)]
-pub(crate) fn node_column_property<'a, T: Tables>(
+pub(crate) fn property_in_column<'a, T: Tables>(
     context: &RowContext<'a>,
     graph: &GraphView<'a, T>,
     name: &Name,
@@ -114,8 +115,33 @@ pub(crate) fn node_column_property<'a, T: Tables>(
 {
     match held_near(context, name.text.as_str(), near) {
         Some(Value::Node(id)) => Some(graph.node(*id)?.property(key.text.as_str())),
-        _ => None,
+        Some(value) => entry_in(graph, value, key.text.as_str()),
+        None => None,
     }
+}
+
+// What a map has under a key, if anything.
+#[inline(never)]
+fn entry_in<'a, T: Tables>(
+    _graph: &GraphView<'a, T>,
+    value: &'a Value,
+    key: &str,
+) -> Option<Option<&'a Value>>
+    ensures { IfSome result (λ held. property_of _graph.now (view value.now) key.now
+        ≡ Ok (unwrap_or (option_map (λ v. view v.now) held) null)) }
+{
+    let Value::Map(entries) = value else {
+        return None;
+    };
+    Some(entry_lent(entries, key))
+}
+
+/// What stands under a key, if anything.
+pub(crate) fn entry_lent<'a>(map: &'a Rc<BTreeMap<String, Value>>, key: &str) -> Option<&'a Value>
+    ensures { unwrap_or (option_map (λ v. view v.now) result) null
+        ≡ value_at key.now (entries_view map.now.value.entries) }
+{
+    map.as_ref().get(key)
 }
 
 /// `variable.key`, of a column that mostly stands at this place, whatever the row has there.
@@ -137,6 +163,49 @@ pub(crate) fn column_property<'a, T: Tables>(
     match held_near(context, name.text.as_str(), near) {
         Some(value) => property_lent(graph, value, key.text.as_str()),
         None => Err(Fault::UndefinedVariable),
+    }
+}
+
+/// The item at a place of the list in the column that mostly stands near, if a list is there: none behind its end.
+#[inline(always)]
+pub(crate) fn list_column_item<'a, T: Tables>(
+    context: &RowContext<'a>,
+    _graph: &GraphView<'a, T>,
+    name: &Name,
+    place: usize,
+    near: usize,
+) -> Option<Option<&'a Value>>
+    ensures { IfSome result
+        (λ held. given_item context.now _graph.now (string_bytes name.now.text) place
+        ≡ Ok (unwrap_or (option_map (λ v. view v.now) held) null)) }
+{
+    let Some(Value::List(items)) = held_near(context, name.text.as_str(), near) else {
+        return None;
+    };
+    Some(item_lent_at(items.as_ref(), place))
+}
+
+/// `variable[place]`, of a column that mostly stands near, whatever the row has there.
+#[inline(never)]
+pub(crate) fn column_item<'a, T: Tables>(
+    context: &RowContext<'a>,
+    _graph: &GraphView<'a, T>,
+    name: &Name,
+    place: usize,
+    near: usize,
+) -> Result<ValueRef<'a>, Fault>
+    ensures ok { IfOk result (λ f. given_item context.now _graph.now
+        (string_bytes name.now.text) place ≡ Ok (found_view f)) }
+    ensures err { IfErr result (λ e. given_item context.now _graph.now
+        (string_bytes name.now.text) place ≡ Err e) }
+{
+    let Some(value) = held_near(context, name.text.as_str(), near) else {
+        return Err(Fault::UndefinedVariable);
+    };
+    match value {
+        Value::Null => Ok(null()),
+        Value::List(items) => Ok(item_at(items.as_ref(), place)),
+        _ => Err(Fault::TypeFault),
     }
 }
 
@@ -203,15 +272,24 @@ fn index_lent<'a, T: Tables>(
     }
 }
 
+/// What stands at a place, if anything.
+#[inline(always)]
 #[tactic(auto, using(pg_expr_calls::proofs::Counts::reads))]
+fn item_lent_at<'a>(items: &'a Vec<Value>, place: usize) -> Option<&'a Value>
+    ensures { unwrap_or (option_map (λ v. view v.now) result) null
+        ≡ item_at place (values_view items.now.items) }
+{
+    if place < items.len() {
+        Some(&items[place])
+    } else {
+        None
+    }
+}
+
 pub(crate) fn item_at<'a>(items: &'a Vec<Value>, place: usize) -> ValueRef<'a>
     ensures { found_view result ≡ item_at place (values_view items.now.items) }
 {
-    if place < items.len() {
-        ValueRef::Lent(&items[place])
-    } else {
-        null()
-    }
+    lent_or_null(item_lent_at(items, place))
 }
 
 /// The item at a place, counted from the end where it is negative.

@@ -14,6 +14,7 @@ ghost use Rattle.pg_syntax_tree.specs.View.{literal_view};
 ghost use Rattle.pg_value_core.specs.View.{values_view, view};
 
 use crate::atoms::held;
+use crate::reads::entry_lent;
 use crate::row_context::RowContext;
 use pg_graph::Tables;
 use pg_meaning::Fault;
@@ -148,6 +149,7 @@ pub(crate) fn property_lent<'a, T: Tables>(
         Value::Null => Scalar::Null,
         Value::Node(id) => node_property(graph, *id, key),
         Value::Rel(id) => relationship_property(graph, *id, key),
+        Value::Map(entries) => scalar_or_null(entry_lent(entries, key)),
         _ => Scalar::Untold,
     }
 }

@@ -1,6 +1,6 @@
 //! What is kept of an aggregate in a group.
 ghost use Rattle.std.specs.Prelude.{◌≡◌, ◌≢◌, true, false, IfErr, IfOk, OnOk, Ok, Err, map, option_map};
-ghost use Rattle.pg_meaning.specs.Value.{boolean};
+ghost use Rattle.pg_meaning.specs.Value.{boolean, integer};
 ghost use Rattle.pg_meaning.specs.declared.fault.Fault.TheVariants.{OutOfMemory};
 ghost use Rattle.pg_project.specs.AlikeRows.{CountsMore};
 ghost use Rattle.pg_project.specs.Summaries.{begun, Counts, is_null, needs_different, taken_with};
@@ -65,25 +65,25 @@ impl Taken {
         })
     }
 
-    /// Takes in one value more, if it counts. Most are integers that a plain sum adds.
-    pub(crate) fn take(&mut self, alloc: Global, value: Value) -> Result<(), Fault>
+    /// Takes in one integer more. Most are added to a plain sum.
+    #[inline(always)]
+    pub(crate) fn take_integer(&mut self, alloc: Global, number: i64) -> Result<(), Fault>
         ensures ok { OnOk result
-            (taken_with (taken_view self.old) (view value) ≡ Ok (taken_view self.new)) }
+            (taken_with (taken_view self.old) (integer number) ≡ Ok (taken_view self.new)) }
         ensures err { IfErr result (λ e. e ≢ OutOfMemory
-            → taken_with (taken_view self.old) (view value) ≡ Err e) }
+            → taken_with (taken_view self.old) (integer number) ≡ Err e) }
     {
-        if let Value::Int(summand) = &value
+        if let Accumulator::Sum(total) = &mut self.held
             && self.different.is_none()
-            && let Accumulator::Sum(total) = &mut self.held
         {
-            return add_integer(total, *summand);
+            return add_integer(total, number);
         }
-        self.take_other(alloc, value)
+        self.take(alloc, Value::Int(number))
     }
 
-    /// The same of any value, by any aggregate.
+    /// Takes in one value more, if it counts.
     #[inline(never)]
-    fn take_other(&mut self, alloc: Global, value: Value) -> Result<(), Fault>
+    pub(crate) fn take(&mut self, alloc: Global, value: Value) -> Result<(), Fault>
         ensures ok { OnOk result
             (taken_with (taken_view self.old) (view value) ≡ Ok (taken_view self.new)) }
         ensures err { IfErr result (λ e. e ≢ OutOfMemory
@@ -122,7 +122,7 @@ impl Taken {
         {
             return count_one(count);
         }
-        self.take_other(alloc, Value::Bool(true))
+        self.take(alloc, Value::Bool(true))
     }
 }
 

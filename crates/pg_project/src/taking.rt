@@ -1,8 +1,9 @@
 //! Rows taken into the aggregates of a group.
-ghost use Rattle.std.specs.Prelude.{◌≡◌, ◌≢◌, ◌≤◌, ◌+◌, ◌*◌, ◌++◌, ℕ, List, length, IfErr, OnOk, Ok, Err};
+ghost use Rattle.std.specs.Prelude.{◌≡◌, ◌≢◌, ◌≤◌, ◌+◌, ◌*◌, ◌++◌, ℕ, List, length, option_map, unwrap_or, IfErr, IfOk, OnOk, Ok, Err};
 ghost use Rattle.pg_expr.specs.Contexts.{given};
 ghost use Rattle.pg_expr.specs.Prepared.{tree_of};
 ghost use Rattle.pg_meaning.specs.Answer.{◌>>=◌ as and_then};
+ghost use Rattle.pg_meaning.specs.Value.{null};
 ghost use Rattle.pg_meaning.specs.declared.fault.Fault.TheVariants.{OutOfMemory};
 ghost use Rattle.pg_project.specs.Kept.{all_taken_in, argument_given, taken_in};
 ghost use Rattle.pg_project.specs.Kept as kept;
@@ -15,7 +16,7 @@ ghost use Rattle.pg_value_core.specs.View.{view};
 
 use crate::items::Aggregate;
 use crate::taken::Taken;
-use pg_expr::{Prepared, RowContext, evaluate_at};
+use pg_expr::{Prepared, RowContext, evaluate_at, lent_at};
 use pg_graph::Tables;
 use pg_meaning::Fault;
 use pg_store::GraphView;
@@ -91,7 +92,40 @@ fn take_value<T: Tables>(
         (given context.now graph.now (tree_of context.now.names.now argument.now))
         (taken_with (taken_view taken.old)) ≡ Err e) }
 {
+    match lent_at(context, argument, graph) {
+        Some(Some(Value::Int(number))) => taken.take_integer(context.alloc, *number),
+        Some(held) => taken.take(context.alloc, copy_held(context.alloc, held)?),
+        None => take_evaluated(context, graph, argument, taken),
+    }
+}
+
+#[inline(never)]
+fn take_evaluated<T: Tables>(
+    context: &RowContext<'_>,
+    graph: &GraphView<'_, T>,
+    argument: &Prepared<'_>,
+    taken: &mut Taken,
+) -> Result<(), Fault>
+    ensures ok { OnOk result (and_then
+        (given context.now graph.now (tree_of context.now.names.now argument.now))
+        (taken_with (taken_view taken.old)) ≡ Ok (taken_view taken.new)) }
+    ensures err { IfErr result (λ e. e ≢ OutOfMemory → and_then
+        (given context.now graph.now (tree_of context.now.names.now argument.now))
+        (taken_with (taken_view taken.old)) ≡ Err e) }
+{
     taken.take(context.alloc, evaluate_at(context, argument, graph)?)
+}
+
+// A copy of what is lent, or null.
+#[inline(never)]
+fn copy_held(alloc: Global, held: Option<&Value>) -> Result<Value, AllocError>
+    ensures { IfOk result
+        (λ v. view v ≡ unwrap_or (option_map (λ v. view v.now) held.entry) null) }
+{
+    match held {
+        Some(value) => value.copy(alloc),
+        None => Ok(Value::Null),
+    }
 }
 
 /// Takes the row into the aggregates of the group of this number.

@@ -1,13 +1,16 @@
 -- The data of an element, and its tokens, written in three steps.
-use Rattle.std.proofs.Common.{◌≡◌, Bool, List, ◌++◌, [], ◌∷◌, String, Vec, Global, string_bytes, codes, decimal, rules, sym, ap, ◌∙◌, append_assoc}
+use Rattle.std.proofs.Common.{◌≡◌, Bool, ℤ, pos, negsuc, length, refl, List, ◌++◌, [], ◌∷◌, String, Vec, Global, string_bytes, codes, decimal, rules, sym, ap, ◌∙◌, append_assoc}
 use Rattle.json.specs.Token.{Token, begin_object, end_object, key, number}
 use Rattle.json.specs.Tree.{json_tokens}
-use Rattle.serde_json.specs.Data.{null, boolean, array, object, string}
-use Rattle.serde_json.specs.Written.{outline}
+use Rattle.std.specs.Fmt.{signed_decimal}
+use Rattle.serde_json.specs.Data.{null, boolean, number as data_number, array, object, string}
+use Rattle.serde_json.specs.Find.{of_integer}
+use Rattle.serde_json.specs.Written.{number_text, outline}
 use Rattle.pg_value_core.specs.declared.ids.NodeId.{NodeId}
 use Rattle.pg_value_core.specs.declared.ids.RelId.{RelId}
-use Rattle.pg_value_core.specs.declared.out.Out.{Out, Null, Bool as OutBool, Text, List as OutList, Map as OutMap, Node, Rel, Path, the_lemmas}
+use Rattle.pg_value_core.specs.declared.out.Out.{Out, Null, Bool as OutBool, Int as OutInt, Text, List as OutList, Map as OutMap, Node, Rel, Path, the_lemmas}
 use Rattle.pg_json.specs.Elements.{node_begun}
+use Rattle.pg_json.specs.Room.{least}
 use Rattle.pg_json.specs.Replies.{data_of, outs, named_outs, node_data, rel_data, path_data, text_items}
 
 pub data_null : data_of Null ≡ null
@@ -15,6 +18,19 @@ data_null = search (rules, the_lemmas)
 
 pub data_bool : (b : Bool) → data_of (OutBool b) ≡ boolean b
 data_bool b = search (rules, the_lemmas)
+
+pub data_int : (i : ℤ) → data_of (OutInt i) ≡ data_number (of_integer i)
+data_int i = search (rules, the_lemmas)
+
+number_written : (i : ℤ) → number_text (of_integer i) ≡ signed_decimal i
+number_written (pos n) = refl
+number_written (negsuc n) = refl
+
+pub integer_tokens : (i : ℤ) → json_tokens (outline (data_of (OutInt i))) ≡ number (signed_decimal i) ∷ []
+integer_tokens i = ap (λ d. json_tokens (outline d)) (data_int i) ∙ ap (λ t. number t ∷ []) (number_written i)
+
+pub integer_least : (i : ℤ) → least (data_of (OutInt i)) ≡ length (signed_decimal i)
+integer_least i = ap least (data_int i) ∙ ap length (number_written i)
 
 pub data_text : (text : String Global) → data_of (Text text) ≡ string (string_bytes text)
 data_text text = search (rules, the_lemmas)

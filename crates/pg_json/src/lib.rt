@@ -32,7 +32,7 @@ pub use query_reply::QueryReply;
 pub use read::read_request;
 pub use request::RequestBody;
 pub use rollback::rollback_body;
-pub use room::room_behind;
+pub use room::{room_behind, room_behind_integer};
 pub use rows::{ReplyColumns, RowsReply};
 pub use scratch::RequestScratch;
 pub use status::{TenantStatus, write_status};

@@ -3,7 +3,7 @@ ghost use Rattle.std.specs.Prelude.{◌≤◌, length};
 
 use crate::pieces::with_steps;
 use crate::query_reply::QueryReply;
-use crate::value::write;
+use crate::value::{write, write_integer};
 use json::Writer;
 use pg_meaning::Fault;
 use pg_value_core::Out;
@@ -22,6 +22,7 @@ impl PlainRows {
     ghost use Rattle.pg_json.specs.Replies.{data_of, items_of, max_reply};
     ghost use Rattle.pg_json.specs.Telling.{HasNames, HasPlain, HasPlainRow, plain_end};
     ghost use Rattle.pg_meaning.specs.declared.fault.Fault.TheVariants.{OutOfMemory, ReplyTooLong};
+    ghost use Rattle.pg_value_core.specs.declared.out.Out.TheVariants.{Int};
     ghost use Rattle.serde_json.specs.Data.{Data, Items, string};
 
     /// No row yet, behind the columns that were written.
@@ -50,6 +51,15 @@ impl PlainRows {
             → OnOk result (HasPlainRow self.new columns rows (row ++ data_of value.now ∷ [])) }
     {
         write(value, &mut self.to)
+    }
+
+    #[inline(always)]
+    pub(crate) fn integer(&mut self, number: &i64) -> Result<(), AllocError>
+        ensures { (columns : Items) (rows : List Items) (row : List Data)
+            → HasPlainRow self.old columns rows row
+            → OnOk result (HasPlainRow self.new columns rows (row ++ data_of (Int number.now) ∷ [])) }
+    {
+        write_integer(number, &mut self.to)
     }
 
     pub(crate) fn text(&mut self, text: &str) -> Result<(), AllocError>

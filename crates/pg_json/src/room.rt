@@ -3,6 +3,7 @@ ghost use Rattle.std.specs.Prelude.{◌≡◌, ◌+◌, ◌-◌, ◌≤◌, leng
 ghost use Rattle.std.specs.Fmt.{signed_decimal};
 ghost use Rattle.pg_json.specs.Replies.{data_of, outs, named_outs, text_items};
 ghost use Rattle.pg_json.specs.Room.{least, items_least, members_least};
+ghost use Rattle.pg_value_core.specs.declared.out.Out.TheVariants.{Int};
 
 use pg_value_core::Out;
 
@@ -14,7 +15,7 @@ pub fn room_behind(room: usize, value: &Out) -> usize
 {
     match value {
         Out::Null | Out::Bool(_) => room.saturating_sub(4),
-        Out::Int(i) => room.saturating_sub(signed_digits(*i)),
+        Out::Int(i) => room_behind_integer(room, i),
         Out::Text(text) => room_behind_text(room, text),
         Out::List(items) => room_behind_items(room.saturating_sub(1), items),
         Out::Map(members) => room_behind_members(room.saturating_sub(1), members),
@@ -38,6 +39,15 @@ pub fn room_behind(room: usize, value: &Out) -> usize
         }
         Out::Path(elements) => room_behind_items(room.saturating_sub(11), elements),
     }
+}
+
+/// The same of an integer, of which no value is made.
+#[inline(always)]
+#[tactic(auto, using(crate::proofs::Elements::integer_least))]
+pub fn room_behind_integer(room: usize, number: &i64) -> usize
+    ensures { result ≡ room - least (data_of (Int number.now)) }
+{
+    room.saturating_sub(signed_digits(*number))
 }
 
 #[cycle(room)]

@@ -93,6 +93,7 @@ impl RowsReply {
     ghost use Rattle.pg_json.specs.Rows.{rows_text};
     ghost use Rattle.pg_json.specs.Telling.{HasRow, HasWritten};
     ghost use Rattle.pg_meaning.specs.declared.fault.Fault.TheVariants.{OutOfMemory, ReplyTooLong};
+    ghost use Rattle.pg_value_core.specs.declared.out.Out.TheVariants.{Int};
     ghost use Rattle.serde_json.specs.Data.{Data, Items, string};
 
     /// One row more, of which no value is told yet.
@@ -120,6 +121,21 @@ impl RowsReply {
             Rows::Plain(rows) => rows.value(&value),
             Rows::Noted(_, row) => {
                 row.push(value)?;
+                Ok(())
+            }
+        }
+    }
+
+    /// One integer more of the row that is told.
+    pub fn integer(&mut self, number: &i64) -> Result<(), AllocError>
+        ensures { (notes : Bool) (columns : Items) (rows : List Items) (row : List Data)
+            → HasRow self.old notes columns rows row
+            → OnOk result (HasRow self.new notes columns rows (row ++ data_of (Int number.now) ∷ [])) }
+    {
+        match &mut self.rows {
+            Rows::Plain(rows) => rows.integer(number),
+            Rows::Noted(_, row) => {
+                row.push(Out::Int(*number))?;
                 Ok(())
             }
         }

@@ -6,6 +6,7 @@ ghost use Rattle.serde_json.specs.Data.{array, object};
 ghost use Rattle.serde_json.specs.Written.{outline};
 ghost use Rattle.pg_json.specs.Replies.{data_of, outs, named_outs, text_items};
 ghost use Rattle.pg_json.specs.Elements.{node_begun, rel_begun, rel_ended};
+ghost use Rattle.pg_value_core.specs.declared.out.Out.TheVariants.{Int};
 
 use json::Writer;
 use pg_value_core::{NodeId, Out, RelId};
@@ -20,7 +21,7 @@ pub(crate) fn write(value: &Out, to: &mut Writer) -> Result<(), AllocError>
     match value {
         Out::Null => to.null(),
         Out::Bool(b) => to.boolean(*b),
-        Out::Int(i) => to.i64(*i),
+        Out::Int(i) => write_integer(i, to),
         Out::Text(text) => to.string(text),
         Out::List(items) => write_items(items, to),
         Out::Map(members) => write_members(members, to),
@@ -50,6 +51,17 @@ pub(crate) fn write(value: &Out, to: &mut Writer) -> Result<(), AllocError>
             to.end_object()
         }
     }
+}
+
+/// An integer, of which no value is made.
+#[inline(always)]
+#[tactic(auto, using(crate::proofs::Elements::integer_tokens))]
+pub(crate) fn write_integer(number: &i64, to: &mut Writer) -> Result<(), AllocError>
+    ensures ok { OnOk result
+        (to.new.tokens ≡ to.old.tokens ++ json_tokens (outline (data_of (Int number.now)))) }
+    ensures before { to.new.before ≡ to.old.before }
+{
+    to.i64(*number)
 }
 
 #[cycle(write)]

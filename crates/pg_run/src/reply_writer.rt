@@ -1,7 +1,7 @@
 //! A query's reply while its rows are told.
 use crate::spelling::spell;
 use pg_graph::Tables;
-use pg_json::{QueryReply, ReplyColumns, RowsReply, room_behind};
+use pg_json::{QueryReply, ReplyColumns, RowsReply, room_behind, room_behind_integer};
 use pg_meaning::Fault;
 use pg_rows::Columns;
 use pg_scope::{Naming, column_name};
@@ -34,6 +34,7 @@ impl ReplyWriter {
     ghost use Rattle.pg_run.specs.Telling.{IsLost, IsTelling, IsTellingRow, Puts, told};
     ghost use Rattle.pg_syntax_tree.specs.View.{item_view};
     ghost use Rattle.pg_value_core.specs.Gives.{Gives};
+    ghost use Rattle.pg_value_core.specs.declared.out.Out.TheVariants.{Int};
     ghost use Rattle.pg_value_core.specs.View.{view};
 
     /// The columns of these names, and no row yet. `notes` tells whether the ends of the rows are to be noted.
@@ -109,7 +110,7 @@ impl ReplyWriter {
         match value {
             Value::Null => self.put_scalar(Out::Null),
             Value::Bool(b) => self.put_scalar(Out::Bool(*b)),
-            Value::Int(i) => self.put_scalar(Out::Int(*i)),
+            Value::Int(i) => self.put_integer(i),
             Value::Text(text) => self.put_text(text),
             _ => match spell(alloc, graph, value, &mut self.room) {
                 Ok(out) => self.put(out),
@@ -128,6 +129,19 @@ impl ReplyWriter {
     {
         self.room = room_behind(self.room, &out);
         self.put(out)
+    }
+
+    /// Puts an integer, of which no value is made.
+    #[inline(always)]
+    fn put_integer(&mut self, number: &i64) -> Result<(), AllocError>
+        ensures { Puts result self.old self.new (data_of (Int number.now))
+            (least (data_of (Int number.now))) }
+    {
+        self.room = room_behind_integer(self.room, number);
+        if self.room > 0 {
+            self.reply.integer(number)?;
+        }
+        Ok(())
     }
 
     /// Puts a text, of which no copy is made.

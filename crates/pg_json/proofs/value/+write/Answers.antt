@@ -91,7 +91,7 @@ pub write-returns-in-Bool-clause-before : goal.write-returns-in-Bool-clause-befo
 write-returns-in-Bool-clause-before t c = c.boolean.ensures.room.0
 
 pub write-returns-in-Int-clause-before : goal.write-returns-in-Int-clause-before
-write-returns-in-Int-clause-before t c = c.i64.ensures.room.0
+write-returns-in-Int-clause-before t c = c.write_integer.ensures.before
 
 pub write-returns-in-Text-clause-before : goal.write-returns-in-Text-clause-before
 write-returns-in-Text-clause-before t c = c.string.ensures.room.0

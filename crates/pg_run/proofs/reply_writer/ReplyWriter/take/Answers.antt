@@ -41,8 +41,8 @@ returns-in-Int-clause-telling g c = λ notes columns rows row h.
     let graph = c.args.graph.now in
     let v = c.args.value.now in
     let none = none_of c.args.self.now.fault (sym c.is_some.ensures ∙ c.if-is_some.false) in
-    one_scalar graph notes columns rows row c.args.self.now (view v) h c.put_scalar-in-Int.result _ _ _ none none refl (ap (test_output graph) (int_seen v c.in-Int.i c.in-Int.is)) c.saturating_sub-self.ensures
-    (int_put graph v c.in-Int.i _ c.in-Int.is (search rules)) c.put_scalar-in-Int.ensures
+    one_scalar graph notes columns rows row c.args.self.now (view v) h c.put_integer.result _ _ _ none none refl (ap (test_output graph) (int_seen v c.in-Int.i c.in-Int.is)) c.saturating_sub-self.ensures
+    (int_put graph v c.in-Int.i _ c.in-Int.is (search rules)) c.put_integer.ensures
 
 pub returns-in-Text-clause-telling : goal.returns-in-Text-clause-telling
 returns-in-Text-clause-telling g c = λ notes columns rows row h.

@@ -12,7 +12,7 @@ room_behind-returns-in-Text t c =
 pub room_behind-returns-in-List : goal.room_behind-returns-in-List
 room_behind-returns-in-List t c =
     let parts = ap (λ es. 1 + items_least (outs es)) c.deref-in-List.ensures.value ∙ list_least c.in-List.items in
-    rw c.in-List.is (behind_both c.args.room c.saturating_sub-in-List.result c.room_behind_items.result 1 _ _ parts c.saturating_sub-in-List.ensures c.room_behind_items.ensures)
+    rw c.in-List.is (behind_both c.args.room c.saturating_sub.result c.room_behind_items.result 1 _ _ parts c.saturating_sub.ensures c.room_behind_items.ensures)
 
 pub room_behind-returns-in-Map : goal.room_behind-returns-in-Map
 room_behind-returns-in-Map t c =

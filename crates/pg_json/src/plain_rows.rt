@@ -57,7 +57,8 @@ impl PlainRows {
     pub(crate) fn integer(&mut self, number: &i64) -> Result<(), AllocError>
         ensures { (columns : Items) (rows : List Items) (row : List Data)
             → HasPlainRow self.old columns rows row
-            → OnOk result (HasPlainRow self.new columns rows (row ++ data_of (Int number.now) ∷ [])) }
+            → OnOk result (HasPlainRow self.new columns rows
+            (row ++ data_of (Int number.now) ∷ [])) }
     {
         write_integer(number, &mut self.to)
     }

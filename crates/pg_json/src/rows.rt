@@ -130,7 +130,8 @@ impl RowsReply {
     pub fn integer(&mut self, number: &i64) -> Result<(), AllocError>
         ensures { (notes : Bool) (columns : Items) (rows : List Items) (row : List Data)
             → HasRow self.old notes columns rows row
-            → OnOk result (HasRow self.new notes columns rows (row ++ data_of (Int number.now) ∷ [])) }
+            → OnOk result (HasRow self.new notes columns rows
+            (row ++ data_of (Int number.now) ∷ [])) }
     {
         match &mut self.rows {
             Rows::Plain(rows) => rows.integer(number),

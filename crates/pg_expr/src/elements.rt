@@ -64,7 +64,7 @@ fn text_list(alloc: Global, all: &Vec<&str>) -> Result<Value, AllocError>
 {
     let mut values = Vec::with_capacity(alloc, all.len())?;
     for bytes in all {
-        values.push(Value::Text(String::from_str(alloc, bytes)?))?;
+        values.push(Value::text(alloc, bytes)?)?;
     }
     Value::list(values)
 }
@@ -81,7 +81,7 @@ pub(crate) fn kind<T: Tables>(
 {
     match v {
         Value::Rel(id) => match graph.rel(*id) {
-            Some(relationship) => { Ok(Value::Text(String::from_str(alloc, relationship.kind())?)) }
+            Some(relationship) => Ok(Value::text(alloc, relationship.kind())?),
             None => Err(Fault::DeletedEntity),
         },
         _ => Err(Fault::TypeFault),

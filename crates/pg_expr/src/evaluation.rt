@@ -237,7 +237,8 @@ fn owned<T: Tables>(
         Scalar::Null => Ok(Value::Null),
         Scalar::Bool(b) => Ok(Value::Bool(b)),
         Scalar::Int(i) => Ok(Value::Int(i)),
-        Scalar::Text(text) => text_copied(context.alloc, text),
+        Scalar::Text(text) => text_copied(context.alloc, text.as_str()),
+        Scalar::ShortText(text) => Ok(Value::ShortText(*text)),
         Scalar::Lent(value) => copied(context.alloc, value),
     }
 }

@@ -87,7 +87,7 @@ fn sum_taken<'a>(alloc: Global, v: ValueRef<'a>, w: ValueRef<'a>) -> Result<Valu
 {
     let left = v.take(alloc)?;
     let right = w.take(alloc)?;
-    Ok(ValueRef::Made(values::plus(left, right)?))
+    Ok(ValueRef::Made(values::plus(alloc, left, right)?))
 }
 
 /// A value compared with one other, or the fault that was found in its place.

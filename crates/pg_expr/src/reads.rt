@@ -268,6 +268,9 @@ fn index_lent<'a, T: Tables>(
         (Value::Map(entries), Value::Text(key)) => Ok(entry(entries, key.as_str())),
         (Value::Node(id), Value::Text(key)) => node_property(graph, *id, key.as_str()),
         (Value::Rel(id), Value::Text(key)) => relationship_property(graph, *id, key.as_str()),
+        (Value::Map(entries), Value::ShortText(key)) => Ok(entry(entries, key.as_str())),
+        (Value::Node(id), Value::ShortText(key)) => node_property(graph, *id, key.as_str()),
+        (Value::Rel(id), Value::ShortText(key)) => relationship_property(graph, *id, key.as_str()),
         _ => Err(Fault::TypeFault),
     }
 }

@@ -16,6 +16,7 @@ ghost use Rattle.pg_value_core.specs.View.{values_view, view};
 use crate::atoms::held;
 use crate::reads::entry_lent;
 use crate::row_context::RowContext;
+use arrayvec::ArrayString;
 use pg_graph::Tables;
 use pg_meaning::Fault;
 use pg_store::GraphView;
@@ -31,6 +32,7 @@ pub(crate) enum Scalar<'a> {
     Bool(bool),
     Int(i64),
     Text(&'a String),
+    ShortText(&'a ArrayString<16>),
     Lent(&'a Value),
 }
 
@@ -43,6 +45,7 @@ pub(crate) fn scalar_of<'a>(value: &'a Value) -> Scalar<'a>
         Value::Bool(b) => Scalar::Bool(*b),
         Value::Int(i) => Scalar::Int(*i),
         Value::Text(text) => Scalar::Text(text),
+        Value::ShortText(text) => Scalar::ShortText(text),
         _ => Scalar::Lent(value),
     }
 }
@@ -194,11 +197,11 @@ fn relationship_property<'a, T: Tables>(
 }
 
 #[inline(never)]
-pub(crate) fn text_copied(alloc: Global, content: &String) -> Result<Value, Fault>
-    ensures ok { IfOk result (λ v. view v ≡ text (string_bytes content.now)) }
+pub(crate) fn text_copied(alloc: Global, content: &str) -> Result<Value, Fault>
+    ensures ok { IfOk result (λ v. view v ≡ text content.now) }
     ensures err { IfErr result (λ e. e ≡ OutOfMemory) }
 {
-    Ok(Value::Text(String::from_str(alloc, content.as_str())?))
+    Ok(Value::text(alloc, content)?)
 }
 
 #[inline(never)]

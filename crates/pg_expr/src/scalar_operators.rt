@@ -141,13 +141,15 @@ fn judged<'a>(t: Option<Tri>) -> Scalar<'a>
 }
 
 /// One comparison of two integers or two texts.
+#[inline(always)]
 pub(crate) fn compared<'a>(operator: Operator, v: Scalar<'_>, w: Scalar<'_>) -> Scalar<'a>
     ensures { BothTell (scalar_view v.entry) (scalar_view w.entry) (scalar_view result)
         (λ x y. truth_compared x ((operator, y) ∷ [])) }
 {
     match v {
         Scalar::Int(x) => integer_compared(operator, x, w),
-        Scalar::Text(s) => text_compared(operator, s, w),
+        Scalar::Text(s) => text_compared(operator, s.as_str(), w),
+        Scalar::ShortText(s) => text_compared(operator, s.as_str(), w),
         _ => Scalar::Untold,
     }
 }
@@ -180,19 +182,19 @@ fn integers_compared(operator: Operator, x: i64, y: i64) -> Option<Tri>
 
 /// One comparison with a text at the left.
 #[inline(always)]
-pub(crate) fn text_compared<'a>(operator: Operator, s: &String, w: Scalar<'_>) -> Scalar<'a>
+pub(crate) fn text_compared<'a>(operator: Operator, s: &str, w: Scalar<'_>) -> Scalar<'a>
     ensures { ThenTells (scalar_view w.entry) (scalar_view result)
-        (λ y. truth_compared (text (string_bytes s.now)) ((operator, y) ∷ [])) }
+        (λ y. truth_compared (text s.now) ((operator, y) ∷ [])) }
 {
     match w {
-        Scalar::Text(t) => judged(texts_compared(operator, s, t)),
+        Scalar::Text(t) => judged(texts_compared(operator, s, t.as_str())),
+        Scalar::ShortText(t) => judged(texts_compared(operator, s, t.as_str())),
         _ => Scalar::Untold,
     }
 }
 
-fn texts_compared(operator: Operator, s: &String, t: &String) -> Option<Tri>
-    ensures { IfSome result (λ u. compared operator (text (string_bytes s.now))
-        (text (string_bytes t.now)) ≡ Ok u) }
+fn texts_compared(operator: Operator, s: &str, t: &str) -> Option<Tri>
+    ensures { IfSome result (λ u. compared operator (text s.now) (text t.now) ≡ Ok u) }
 {
     match operator {
         Operator::Equal => Some(truth(s == t)),
@@ -255,6 +257,7 @@ pub(crate) fn null_tested<'a>(is_negated: bool, v: Scalar<'_>) -> Scalar<'a>
         Scalar::Bool(_) => null_test(is_negated, false),
         Scalar::Int(_) => null_test(is_negated, false),
         Scalar::Text(_) => null_test(is_negated, false),
+        Scalar::ShortText(_) => null_test(is_negated, false),
         Scalar::Lent(_) => Scalar::Untold,
     }
 }
@@ -289,6 +292,7 @@ pub(crate) fn sized<'a, T: Tables>(graph: &GraphView<'_, T>, v: Scalar<'_>) -> S
     match v {
         Scalar::Null => Scalar::Null,
         Scalar::Text(text) => counted(characters(text.as_bytes())),
+        Scalar::ShortText(text) => counted(characters(text.as_bytes())),
         Scalar::Lent(value) => lent_sized(graph, value),
         _ => Scalar::Untold,
     }

@@ -134,7 +134,18 @@ pub(crate) fn known_truth<'a, T: Tables>(
             is_chosen(integer_compared(known.operator, *x, side_told(known.right, row, graph)))
         }
         Some(Value::Text(text)) => {
-            is_chosen(text_compared(known.operator, text, side_told(known.right, row, graph)))
+            is_chosen(text_compared(
+                known.operator,
+                text.as_str(),
+                side_told(known.right, row, graph),
+            ))
+        }
+        Some(Value::ShortText(text)) => {
+            is_chosen(text_compared(
+                known.operator,
+                text.as_str(),
+                side_told(known.right, row, graph),
+            ))
         }
         _ => sides_truth(known, row, graph),
     }

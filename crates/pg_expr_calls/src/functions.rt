@@ -20,6 +20,7 @@ pub fn size(v: &Value) -> Result<Value, Fault>
     match v {
         Value::List(items) => Ok(count_items(items.as_ref())),
         Value::Text(text) => Ok(count(characters(text.as_bytes()))),
+        Value::ShortText(text) => Ok(count(characters(text.as_bytes()))),
         _ => Err(Fault::TypeFault),
     }
 }
@@ -86,6 +87,7 @@ pub fn to_text(alloc: Global, v: Value) -> Result<Value, Fault>
         Parts::Bool(true) => as_text(String::from_str(alloc, "true")),
         Parts::Bool(false) => as_text(String::from_str(alloc, "false")),
         Parts::Text(text) => Ok(Value::Text(text)),
+        Parts::ShortText(text) => Ok(Value::ShortText(text)),
         _ => Err(Fault::TypeFault),
     }
 }
@@ -130,6 +132,7 @@ pub fn to_integer(v: &Value) -> Result<Value, Fault>
     match v {
         Value::Int(i) => Ok(Value::Int(*i)),
         Value::Text(text) => Ok(integer_in(text.as_str())),
+        Value::ShortText(text) => Ok(integer_in(text.as_str())),
         _ => Err(Fault::TypeFault),
     }
 }

@@ -11,10 +11,11 @@ ghost use Rattle.pg_value_core.specs.View.{view, values_view};
 use crate::limits::made;
 use pg_meaning::Fault;
 use pg_value_core::{Parts, Value, owned_items};
+use std::alloc::Global;
 use std::rc::Rc;
 
 /// `v + w`.
-pub fn plus(v: Value, w: Value) -> Result<Value, Fault>
+pub fn plus(alloc: Global, v: Value, w: Value) -> Result<Value, Fault>
     ensures ok { IfOk result (λ u. plus (view v) (view w) ≡ Ok (view u)) }
     ensures err { IfErr result (λ e. e ≢ OutOfMemory → plus (view v) (view w) ≡ Err e) }
 {
@@ -22,6 +23,7 @@ pub fn plus(v: Value, w: Value) -> Result<Value, Fault>
         Parts::Null => Ok(Value::Null),
         Parts::Int(x) => integer_plus(x, w),
         Parts::Text(s) => text_plus(s, w),
+        Parts::ShortText(s) => text_plus(String::from_str(alloc, s.as_str())?, w),
         Parts::List(xs) => list_plus(xs, w),
         v => other_plus(v.into_value(), w),
     }
@@ -56,6 +58,10 @@ fn text_plus(mut s: String, w: Value) -> Result<Value, Fault>
 {
     match w.into_parts() {
         Parts::Text(t) => {
+            s.push_str(t.as_str())?;
+            made(Value::Text(s))
+        }
+        Parts::ShortText(t) => {
             s.push_str(t.as_str())?;
             made(Value::Text(s))
         }

@@ -36,7 +36,7 @@ fn push_text(alloc: Global, values: &mut Vec<Value>, bytes: &str) -> Result<(), 
     ensures { OnOk result ((ws : Values) → appended (values_view values.new.items) ws
         ≡ appended (values_view values.old.items) (item (text bytes.now) ws)) }
 {
-    push(values, Value::Text(String::from_str(alloc, bytes)?))
+    push(values, Value::text(alloc, bytes)?)
 }
 
 pub(crate) fn push(values: &mut Vec<Value>, value: Value) -> Result<(), AllocError>

@@ -13,8 +13,8 @@ use pg_value_core::Value;
 pub fn begins_with(v: &Value, w: &Value) -> Value
     ensures { tested StartsWith (view v.now) (view w.now) ≡ Ok (view result) }
 {
-    match (v, w) {
-        (Value::Text(s), Value::Text(t)) => Value::Bool(s.as_bytes().starts_with(t.as_bytes())),
+    match (v.as_text(), w.as_text()) {
+        (Some(s), Some(t)) => Value::Bool(s.as_bytes().starts_with(t.as_bytes())),
         _ => Value::Null,
     }
 }
@@ -25,8 +25,8 @@ pub fn begins_with(v: &Value, w: &Value) -> Value
 pub fn finishes_with(v: &Value, w: &Value) -> Value
     ensures { tested EndsWith (view v.now) (view w.now) ≡ Ok (view result) }
 {
-    match (v, w) {
-        (Value::Text(s), Value::Text(t)) => Value::Bool(s.as_bytes().ends_with(t.as_bytes())),
+    match (v.as_text(), w.as_text()) {
+        (Some(s), Some(t)) => Value::Bool(s.as_bytes().ends_with(t.as_bytes())),
         _ => Value::Null,
     }
 }
@@ -36,8 +36,8 @@ pub fn finishes_with(v: &Value, w: &Value) -> Value
 pub fn contains(v: &Value, w: &Value) -> Value
     ensures { tested Contains (view v.now) (view w.now) ≡ Ok (view result) }
 {
-    match (v, w) {
-        (Value::Text(s), Value::Text(t)) => Value::Bool(has_part(s.as_str(), t.as_str())),
+    match (v.as_text(), w.as_text()) {
+        (Some(s), Some(t)) => Value::Bool(has_part(s, t)),
         _ => Value::Null,
     }
 }

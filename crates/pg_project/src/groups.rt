@@ -208,7 +208,7 @@ fn is_same(held: &Value, value: &Value) -> bool
 {
     match (held, value) {
         (Value::Int(x), Value::Int(y)) => x == y,
-        (Value::Text(x), Value::Text(y)) => x == y,
+        (Value::ShortText(x), Value::ShortText(y)) => x.as_str() == y.as_str(),
         (Value::Node(x), Value::Node(y)) => x.0 == y.0,
         _ => equivalent(held, value),
     }

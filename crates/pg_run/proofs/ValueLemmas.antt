@@ -1,5 +1,6 @@
 -- A value of each kind, as it is seen and spelt out, and the first fault in a list or a map.
 use Rattle.std.specs.declared.rc.Rc.{Rc}
+use Rattle.arrayvec.specs.ArrayString.{ArrayString}
 use Rattle.std.proofs.Common.{◌≡◌, ℕ, List, ◌∷◌, Err, Vec, BTreeMap, String, Global, Bool, ℤ, string_bytes, rules, sym, ap, ◌∙◌}
 use Rattle.serde_json.specs.Data as json
 use Rattle.serde_json.specs.Find.{of_integer}
@@ -36,6 +37,9 @@ view_int i = search (rules, value.the_lemmas)
 view_text : (s : String Global) → view (value.Text s) ≡ seen.text (string_bytes s)
 view_text s = search (rules, value.the_lemmas)
 
+view_short : (s : ArrayString) → view (value.ShortText s) ≡ seen.text s.bytes
+view_short s = search (rules, value.the_lemmas)
+
 view_list : (items : Rc (Vec Value Global) Global) → view (value.List items) ≡ seen.list (values_view items.value.items)
 view_list items = search (rules, value.the_lemmas)
 
@@ -66,6 +70,9 @@ module _ (v : Value) where
 
   pub text_seen : (s : String Global) → v ≡ value.Text s → view v ≡ seen.text (string_bytes s)
   text_seen s e = ap view e ∙ view_text s
+
+  pub short_seen : (s : ArrayString) → v ≡ value.ShortText s → view v ≡ seen.text s.bytes
+  short_seen s e = ap view e ∙ view_short s
 
   pub list_seen : (items : Rc (Vec Value Global) Global) → v ≡ value.List items → view v ≡ seen.list (values_view items.value.items)
   list_seen items e = ap view e ∙ view_list items
@@ -98,8 +105,8 @@ module _ (graph : Graph) (v : Value) where
   pub text_shown : (s : String Global) → v ≡ value.Text s → data_of (out.Text s) ≡ printed graph (view v)
   text_shown s e = data_text s ∙ ap (printed graph) (sym (text_seen v s e))
 
-  pub text_put : (s : String Global) (bytes : List ℕ) → v ≡ value.Text s → bytes ≡ string_bytes s → json.string bytes ≡ printed graph (view v)
-  text_put s bytes e same = ap json.string same ∙ ap (printed graph) (sym (text_seen v s e))
+  pub text_put : (bytes : List ℕ) → view v ≡ seen.text bytes → json.string bytes ≡ printed graph (view v)
+  text_put bytes e = ap (printed graph) (sym e)
 
 -- ---- the first fault
 

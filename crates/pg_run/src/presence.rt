@@ -17,7 +17,8 @@ fn test_value<T: Tables>(graph: &GraphView<'_, T>, value: &Value) -> Result<(), 
     ensures err { IfErr result (λ e. test_output graph.now (view value.now) ≡ Err e) }
 {
     match value {
-        Value::Null | Value::Bool(_) | Value::Int(_) | Value::Text(_) => Ok(()),
+        Value::Null | Value::Bool(_) | Value::Int(_) => Ok(()),
+        Value::Text(_) | Value::ShortText(_) => Ok(()),
         Value::List(items) => test_each(graph, items.as_ref()),
         Value::Map(entries) => test_each_entry(graph, entries.as_ref()),
         Value::Node(id) => test_element(graph, true, id.0),

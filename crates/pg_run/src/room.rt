@@ -1,5 +1,5 @@
 //! Room for what is spelt out.
-ghost use Rattle.std.specs.Prelude.{◌≡◌, ◌≢◌, ◌+◌, ◌-◌, length, string_bytes, IfErr, IfOk};
+ghost use Rattle.std.specs.Prelude.{◌≡◌, ◌≢◌, ◌+◌, ◌-◌, length, IfErr, IfOk};
 ghost use Rattle.pg_json.specs.Replies.{data_of};
 ghost use Rattle.pg_json.specs.Room.{least};
 ghost use Rattle.pg_meaning.specs.declared.fault.Fault.TheVariants.{OutOfMemory};
@@ -22,15 +22,14 @@ pub(crate) fn within(out: Out, room: &mut usize) -> Out
 }
 
 /// A copy of the text, or null in its place where no room is left behind it.
-pub(crate) fn spell_text(alloc: Global, text: &String, room: &mut usize) -> Result<Out, Fault>
-    ensures room { IfOk result (λ out. room.new ≡ room.old - (length (string_bytes text.now) + 2)) }
-    ensures out { IfOk result
-        (λ out. room.new ≢ 0 → data_of out ≡ string (string_bytes text.now)) }
+pub(crate) fn spell_text(alloc: Global, text: &str, room: &mut usize) -> Result<Out, Fault>
+    ensures room { IfOk result (λ out. room.new ≡ room.old - (length text.now + 2)) }
+    ensures out { IfOk result (λ out. room.new ≢ 0 → data_of out ≡ string text.now) }
     ensures err { IfErr result (λ e. e ≡ OutOfMemory) }
 {
     *room = room.saturating_sub(2).saturating_sub(text.len());
     if *room == 0 {
         return Ok(Out::Null);
     }
-    Ok(Out::Text(String::from_str(alloc, text.as_str())?))
+    Ok(Out::Text(String::from_str(alloc, text)?))
 }

@@ -17,6 +17,7 @@ fn spell_stored(alloc: Global, value: &Value) -> Result<Out, AllocError>
         Value::Bool(b) => Ok(Out::Bool(*b)),
         Value::Int(i) => Ok(Out::Int(*i)),
         Value::Text(text) => Ok(Out::Text(String::from_str(alloc, text.as_str())?)),
+        Value::ShortText(text) => Ok(Out::Text(String::from_str(alloc, text.as_str())?)),
         Value::List(items) => Ok(Out::List(spell_stored_items(alloc, items.as_ref())?)),
         Value::Map(entries) => Ok(Out::Map(spell_stored_entries(alloc, entries.as_ref())?)),
         Value::Null | Value::Node(_) | Value::Rel(_) | Value::Path(_) => Ok(Out::Null),

@@ -1,10 +1,11 @@
 -- That values of other types are not equal, and a null to nothing.
 use Rattle.std.specs.declared.rc.Rc.{Rc}
-use Rattle.std.proofs.Common.{◌≡◌, ℤ, Bool, Vec, BTreeMap, String, Global, string_bytes, refl, sym, ap, ◌∙◌}
+use Rattle.arrayvec.specs.ArrayString.{ArrayString}
+use Rattle.std.proofs.Common.{◌≡◌, ℕ, ℤ, Bool, List, Vec, BTreeMap, String, Global, string_bytes, refl, sym, ap, ◌∙◌}
 use Rattle.pg_meaning.specs.Equality.{eq3}
 use Rattle.pg_meaning.specs.Value.{Value as Datum, null, boolean, integer, text, list, mapping, node, relationship, path}
 use Rattle.pg_meaning.specs.declared.logic.Tri.TheVariants.{False, Null}
-use Rattle.pg_value_core.proofs.Forms.{null_seen, bool_seen, int_seen, text_seen, list_seen, map_seen, node_seen, rel_seen, path_seen}
+use Rattle.pg_value_core.proofs.Forms.{null_seen, bool_seen, int_seen, text_seen, short_seen, list_seen, map_seen, node_seen, rel_seen, path_seen}
 use Rattle.pg_value_core.specs.View.{view, view_step, values_view, entries_view}
 use Rattle.pg_value_core.specs.declared.ids.NodeId.{NodeId}
 use Rattle.pg_value_core.specs.declared.ids.Path.{Path}
@@ -13,7 +14,7 @@ use Rattle.pg_value_core.specs.declared.value.Value.{Value}
 use Rattle.pg_value_core.specs.declared.value.Value.TheFolds.{fold-roll-Value}
 use Rattle.pg_value_core.specs.declared.value.Value.TheOpen.{Value-F}
 use Rattle.pg_value_core.specs.declared.value.Value.TheVariants as code
-use Rattle.pg_value_core.specs.declared.value.Value.TheViews.{out-Value, roll-Value, roll-out-Value, rolls-Null, rolls-Bool, rolls-Int, rolls-Text, rolls-List, rolls-Map, rolls-Node, rolls-Rel, rolls-Path}
+use Rattle.pg_value_core.specs.declared.value.Value.TheViews.{out-Value, roll-Value, roll-out-Value, rolls-Null, rolls-Bool, rolls-Int, rolls-Text, rolls-ShortText, rolls-List, rolls-Map, rolls-Node, rolls-Rel, rolls-Path}
 
 pub both_seen : (a b : Value) (v w : Datum) → view a ≡ v → view b ≡ w → eq3 v w ≡ eq3 (view a) (view b)
 both_seen a b v w e f = sym (ap (λ u. eq3 u (view b)) e ∙ ap (eq3 v) f)
@@ -45,13 +46,17 @@ module _ (b : Value) (some : b ≡ code.Null → ⊥) where
   pub other_int : (a : Value) (i : ℤ) → a ≡ code.Int i → ((i : ℤ) → b ≡ code.Int i → ⊥) → False ≡ eq3 (view a) (view b)
   other_int a i is none = int_apart i (out-Value b) (roll-out-Value b) none ∙ ap (λ v. eq3 v (view b)) (sym (int_seen i is))
 
-  text_apart : (s : String Global) (part : Value-F Value) → roll-Value part ≡ b → ((s : String Global) → b ≡ code.Text s → ⊥) → False ≡ eq3 (text (string_bytes s)) (view b)
-  text_apart s Value-F.Null same none = absurd (some (sym same ∙ rolls-Null))
-  text_apart s (Value-F.Text y) same none = absurd (none y (sym same ∙ rolls-Text y))
-  text_apart s part same none = ap (eq3 (text (string_bytes s))) (sym (fold-roll-Value Datum view_step part) ∙ ap view same)
+  text_apart : (s : List ℕ) (part : Value-F Value) → roll-Value part ≡ b → ((s : String Global) → b ≡ code.Text s → ⊥) → ((s : ArrayString) → b ≡ code.ShortText s → ⊥) → False ≡ eq3 (text s) (view b)
+  text_apart s Value-F.Null same none no_short = absurd (some (sym same ∙ rolls-Null))
+  text_apart s (Value-F.Text y) same none no_short = absurd (none y (sym same ∙ rolls-Text y))
+  text_apart s (Value-F.ShortText y) same none no_short = absurd (no_short y (sym same ∙ rolls-ShortText y))
+  text_apart s part same none no_short = ap (eq3 (text s)) (sym (fold-roll-Value Datum view_step part) ∙ ap view same)
 
-  pub other_text : (a : Value) (s : String Global) → a ≡ code.Text s → ((s : String Global) → b ≡ code.Text s → ⊥) → False ≡ eq3 (view a) (view b)
-  other_text a s is none = text_apart s (out-Value b) (roll-out-Value b) none ∙ ap (λ v. eq3 v (view b)) (sym (text_seen s is))
+  pub other_text : (a : Value) (s : String Global) → a ≡ code.Text s → ((s : String Global) → b ≡ code.Text s → ⊥) → ((s : ArrayString) → b ≡ code.ShortText s → ⊥) → False ≡ eq3 (view a) (view b)
+  other_text a s is none no_short = text_apart (string_bytes s) (out-Value b) (roll-out-Value b) none no_short ∙ ap (λ v. eq3 v (view b)) (sym (text_seen s is))
+
+  pub other_short : (a : Value) (s : ArrayString) → a ≡ code.ShortText s → ((s : String Global) → b ≡ code.Text s → ⊥) → ((s : ArrayString) → b ≡ code.ShortText s → ⊥) → False ≡ eq3 (view a) (view b)
+  other_short a s is none no_short = text_apart s.bytes (out-Value b) (roll-out-Value b) none no_short ∙ ap (λ v. eq3 v (view b)) (sym (short_seen s is))
 
   list_apart : (vs : Rc (Vec Value Global) Global) (part : Value-F Value) → roll-Value part ≡ b → ((vs : Rc (Vec Value Global) Global) → b ≡ code.List vs → ⊥) → False ≡ eq3 (list (values_view vs.value.items)) (view b)
   list_apart vs Value-F.Null same none = absurd (some (sym same ∙ rolls-Null))

@@ -14,6 +14,7 @@ pub fn weight(value: &Value) -> u64
 {
     match value {
         Value::Text(text) => 1u64.saturating_add(text.len() as u64),
+        Value::ShortText(text) => 1u64.saturating_add(text.len() as u64),
         Value::List(items) => 1u64.saturating_add(weight_items(items.as_ref())),
         Value::Map(entries) => 1u64.saturating_add(weight_entries(entries.as_ref())),
         Value::Path(path) => 1u64.saturating_add(path.0.len() as u64),

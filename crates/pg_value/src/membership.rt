@@ -48,7 +48,7 @@ fn equals(value: &Value, item: &Value) -> Tri
 {
     match (value, item) {
         (Value::Int(x), Value::Int(y)) => truth(*x == *y),
-        (Value::Text(x), Value::Text(y)) => truth(x == y),
+        (Value::ShortText(x), Value::ShortText(y)) => truth(x.as_str() == y.as_str()),
         _ => eq3(value, item),
     }
 }

@@ -1,5 +1,6 @@
 -- The data that a value of each type stands for.
 use Rattle.std.specs.declared.rc.Rc.{Rc}
+use Rattle.arrayvec.specs.ArrayString.{ArrayString}
 use Rattle.std.proofs.Common.{◌≡◌, ℤ, Bool, Vec, BTreeMap, String, Global, string_bytes, sym, ap, ◌∙◌}
 use Rattle.pg_meaning.specs.Value.{Value as Datum, null, boolean, integer, text, list, mapping, node, relationship, path}
 use Rattle.pg_value_core.specs.View.{view, view_step, values_view, entries_view}
@@ -10,7 +11,7 @@ use Rattle.pg_value_core.specs.declared.value.Value.{Value}
 use Rattle.pg_value_core.specs.declared.value.Value.TheFolds.{fold-roll-Value}
 use Rattle.pg_value_core.specs.declared.value.Value.TheOpen.{Value-F}
 use Rattle.pg_value_core.specs.declared.value.Value.TheVariants as code
-use Rattle.pg_value_core.specs.declared.value.Value.TheViews.{rolls-Null, rolls-Bool, rolls-Int, rolls-Text, rolls-List, rolls-Map, rolls-Node, rolls-Rel, rolls-Path}
+use Rattle.pg_value_core.specs.declared.value.Value.TheViews.{rolls-Null, rolls-Bool, rolls-Int, rolls-Text, rolls-ShortText, rolls-List, rolls-Map, rolls-Node, rolls-Rel, rolls-Path}
 
 pub null_seen : {v : Value} → v ≡ code.Null → view v ≡ null
 null_seen is = ap view (is ∙ sym rolls-Null) ∙ fold-roll-Value Datum view_step Value-F.Null
@@ -23,6 +24,9 @@ int_seen i is = ap view (is ∙ sym (rolls-Int i)) ∙ fold-roll-Value Datum vie
 
 pub text_seen : {v : Value} (s : String Global) → v ≡ code.Text s → view v ≡ text (string_bytes s)
 text_seen s is = ap view (is ∙ sym (rolls-Text s)) ∙ fold-roll-Value Datum view_step (Value-F.Text s)
+
+pub short_seen : {v : Value} (s : ArrayString) → v ≡ code.ShortText s → view v ≡ text s.bytes
+short_seen s is = ap view (is ∙ sym (rolls-ShortText s)) ∙ fold-roll-Value Datum view_step (Value-F.ShortText s)
 
 pub list_seen : {v : Value} (vs : Rc (Vec Value Global) Global) → v ≡ code.List vs → view v ≡ list (values_view vs.value.items)
 list_seen vs is = ap view (is ∙ sym (rolls-List vs)) ∙ fold-roll-Value Datum view_step (Value-F.List vs)

@@ -12,11 +12,12 @@ use Rattle.pg_value_core.specs.View.{view, view_step, values_view, entries_view}
 use Rattle.pg_value_core.specs.declared.ids.NodeId.{NodeId}
 use Rattle.pg_value_core.specs.declared.ids.Path.{Path}
 use Rattle.pg_value_core.specs.declared.ids.RelId.{RelId}
+use Rattle.arrayvec.specs.ArrayString.{ArrayString}
 use Rattle.pg_value_core.specs.declared.value.Value.{Value}
 use Rattle.pg_value_core.specs.declared.value.Value.TheFolds.{fold-roll-Value}
 use Rattle.pg_value_core.specs.declared.value.Value.TheOpen.{Value-F}
 use Rattle.pg_value_core.specs.declared.value.Value.TheVariants as code
-use Rattle.pg_value_core.specs.declared.value.Value.TheViews.{out-Value, roll-Value, roll-out-Value, rolls-Bool, rolls-Int, rolls-Text, rolls-List, rolls-Map, rolls-Node, rolls-Rel, rolls-Path}
+use Rattle.pg_value_core.specs.declared.value.Value.TheViews.{out-Value, roll-Value, roll-out-Value, rolls-Bool, rolls-Int, rolls-Text, rolls-ShortText, rolls-List, rolls-Map, rolls-Node, rolls-Rel, rolls-Path}
 
 pub then_second : {j k : Ordering} (o : Ordering) → j ≡ k → j ≡ Equal → o ≡ ordering_then k o
 then_second o same equal = ap (λ (k : Ordering). ordering_then k o) (sym equal ∙ same)
@@ -60,14 +61,22 @@ module _ (b : Value) where
   pub other_int : (a : Value) (i : ℤ) → a ≡ code.Int i → ((i : ℤ) → b ≡ code.Int i → ⊥) → by_rank (view a) (view b) ≡ value_order (view a) (view b)
   other_int a i is none = at_form a (integer i) (form.int_seen i is) (int_apart i (out-Value b) (roll-out-Value b) none)
 
-  text_apart : (s : String Global) (part : Value-F Value) → roll-Value part ≡ b → ((s : String Global) → b ≡ code.Text s → ⊥) → by_rank (text (string_bytes s)) (view b) ≡ value_order (text (string_bytes s)) (view b)
-  text_apart s (Value-F.Text y) same none = absurd (none y (sym same ∙ rolls-Text y))
+  -- no text of either kind
+  abbrev is_apart : Value → Type 0
+  is_apart v = ((s : String Global) → v ≡ code.Text s → ⊥) × ((s : ArrayString) → v ≡ code.ShortText s → ⊥)
+
+  text_apart : (s : List ℕ) (part : Value-F Value) → roll-Value part ≡ b → is_apart b → by_rank (text s) (view b) ≡ value_order (text s) (view b)
+  text_apart s (Value-F.Text y) same none = absurd (none.0 y (sym same ∙ rolls-Text y))
+  text_apart s (Value-F.ShortText y) same none = absurd (none.1 y (sym same ∙ rolls-ShortText y))
   text_apart s part same none =
       let seen = sym (fold-roll-Value Datum view_step part) ∙ ap view same in
-      sym (ap (by_rank (text (string_bytes s))) seen) ∙ ap (value_order (text (string_bytes s))) seen
+      sym (ap (by_rank (text s)) seen) ∙ ap (value_order (text s)) seen
 
-  pub other_text : (a : Value) (s : String Global) → a ≡ code.Text s → ((s : String Global) → b ≡ code.Text s → ⊥) → by_rank (view a) (view b) ≡ value_order (view a) (view b)
-  other_text a s is none = at_form a (text (string_bytes s)) (form.text_seen s is) (text_apart s (out-Value b) (roll-out-Value b) none)
+  pub other_text : (a : Value) (s : String Global) → a ≡ code.Text s → ((s : String Global) → b ≡ code.Text s → ⊥) → ((s : ArrayString) → b ≡ code.ShortText s → ⊥) → by_rank (view a) (view b) ≡ value_order (view a) (view b)
+  other_text a s is none no_short = at_form a (text (string_bytes s)) (form.text_seen s is) (text_apart (string_bytes s) (out-Value b) (roll-out-Value b) (none, no_short))
+
+  pub other_short : (a : Value) (s : ArrayString) → a ≡ code.ShortText s → ((s : String Global) → b ≡ code.Text s → ⊥) → ((s : ArrayString) → b ≡ code.ShortText s → ⊥) → by_rank (view a) (view b) ≡ value_order (view a) (view b)
+  other_short a s is none no_short = at_form a (text s.bytes) (form.short_seen s is) (text_apart s.bytes (out-Value b) (roll-out-Value b) (none, no_short))
 
   list_apart : (vs : Rc (Vec Value Global) Global) (part : Value-F Value) → roll-Value part ≡ b → ((vs : Rc (Vec Value Global) Global) → b ≡ code.List vs → ⊥) → by_rank (list (values_view vs.value.items)) (view b) ≡ value_order (list (values_view vs.value.items)) (view b)
   list_apart vs (Value-F.List y) same none = absurd (none y (sym same ∙ rolls-List y))

@@ -9,6 +9,7 @@ value_of_parts parts.Null = value.Null
 value_of_parts (parts.Bool b) = value.Bool b
 value_of_parts (parts.Int i) = value.Int i
 value_of_parts (parts.Text s) = value.Text s
+value_of_parts (parts.ShortText s) = value.ShortText s
 value_of_parts (parts.List v) = value.List v
 value_of_parts (parts.Map m) = value.Map m
 value_of_parts (parts.Node n) = value.Node n

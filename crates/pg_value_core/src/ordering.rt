@@ -20,7 +20,7 @@ pub(crate) fn rank(value: &Value) -> u64
         Value::Rel(_) => 2,
         Value::List(_) => 3,
         Value::Path(_) => 4,
-        Value::Text(_) => 5,
+        Value::Text(_) | Value::ShortText(_) => 5,
         Value::Bool(_) => 6,
         Value::Int(_) => 7,
         Value::Null => 8,
@@ -33,12 +33,12 @@ pub fn order(a: &Value, b: &Value) -> Ordering
 {
     match (a, b) {
         (Value::Int(x), Value::Int(y)) => x.cmp(y),
-        (Value::Text(x), Value::Text(y)) => x.cmp(y),
+        (Value::ShortText(x), Value::ShortText(y)) => x.cmp(y),
         _ => order_any(a, b),
     }
 }
 
-// In a frame apart: most values that are compared are integers and texts.
+// In a frame apart: most values that are compared are integers and short texts.
 #[inline(never)]
 #[cycle(order)]
 fn order_any(a: &Value, b: &Value) -> Ordering
@@ -51,6 +51,9 @@ fn order_any(a: &Value, b: &Value) -> Ordering
         (Value::List(xs), Value::List(ys)) => order_items(xs.as_ref(), ys.as_ref()),
         (Value::Path(x), Value::Path(y)) => x.0.cmp(&y.0),
         (Value::Text(x), Value::Text(y)) => x.cmp(y),
+        (Value::ShortText(x), Value::ShortText(y)) => x.cmp(y),
+        (Value::Text(x), Value::ShortText(y)) => x.as_str().cmp(y.as_str()),
+        (Value::ShortText(x), Value::Text(y)) => x.as_str().cmp(y.as_str()),
         (Value::Bool(x), Value::Bool(y)) => x.cmp(y),
         (Value::Int(x), Value::Int(y)) => x.cmp(y),
         _ => rank(a).cmp(&rank(b)),

@@ -4,6 +4,7 @@ ghost use Rattle.pg_value_core.specs.Parts.{value_of_parts};
 
 use crate::ids::{NodeId, Path, RelId};
 use crate::value::Value;
+use arrayvec::ArrayString;
 use std::collections::BTreeMap;
 use std::rc::Rc;
 
@@ -14,6 +15,7 @@ pub enum Parts {
     Bool(bool),
     Int(i64),
     Text(String),
+    ShortText(ArrayString<16>),
     List(Rc<Vec<Value>>),
     Map(Rc<BTreeMap<String, Value>>),
     Node(NodeId),
@@ -31,6 +33,7 @@ impl Parts {
             Parts::Bool(b) => Value::Bool(b),
             Parts::Int(i) => Value::Int(i),
             Parts::Text(text) => Value::Text(text),
+            Parts::ShortText(text) => Value::ShortText(text),
             Parts::List(items) => Value::List(items),
             Parts::Map(entries) => Value::Map(entries),
             Parts::Node(id) => Value::Node(id),

@@ -1,11 +1,13 @@
 //! Values as an expression gives them and a property keeps them.
-ghost use Rattle.std.specs.Prelude.{◌≡◌, IfOk};
-ghost use Rattle.pg_meaning.specs.Value.{list, mapping};
+ghost use Rattle.std.specs.Prelude.{◌≡◌, IfOk, option_map};
+ghost use Rattle.pg_meaning.specs.Value.{list, mapping, text};
 ghost use Rattle.pg_value_core.specs.Parts.{value_of_parts};
+ghost use Rattle.pg_value_core.specs.Texts.{text_in};
 ghost use Rattle.pg_value_core.specs.View.{view, values_view, entries_view};
 
 use crate::ids::{NodeId, Path, RelId};
 use crate::parts::Parts;
+use arrayvec::ArrayString;
 use std::alloc::{AllocError, Global};
 use std::collections::BTreeMap;
 use std::rc::Rc;
@@ -16,7 +18,10 @@ pub enum Value {
     Null,
     Bool(bool),
     Int(i64),
+    /// A text of any length, in memory of its own.
     Text(String),
+    /// A short text, which lies in the value itself.
+    ShortText(ArrayString<16>),
     List(Rc<Vec<Value>>),
     Map(Rc<BTreeMap<String, Value>>),
     Node(NodeId),
@@ -32,6 +37,7 @@ impl Drop for Value {
             Value::Bool(_) => {}
             Value::Int(_) => {}
             Value::Text(_) => {}
+            Value::ShortText(_) => {}
             Value::List(_) => {}
             Value::Map(_) => {}
             Value::Node(_) => {}
@@ -42,6 +48,28 @@ impl Drop for Value {
 }
 
 impl Value {
+    /// A text, which takes memory of its own only where it has more than 16 bytes.
+    pub fn text(alloc: Global, content: &str) -> Result<Value, AllocError>
+        ensures { IfOk result (λ v. view v ≡ text content.now) }
+    {
+        match ArrayString::from(content) {
+            Ok(short) => Ok(Value::ShortText(short)),
+            Err(_) => long_text(alloc, content),
+        }
+    }
+
+    /// The text that a value is, if it is one.
+    #[inline(always)]
+    pub fn as_text(&self) -> Option<&str>
+        ensures { option_map (λ t. t.now) result ≡ text_in (view self.now) }
+    {
+        match self {
+            Value::Text(content) => Some(content.as_str()),
+            Value::ShortText(content) => Some(content.as_str()),
+            _ => None,
+        }
+    }
+
     /// A list of these items.
     pub fn list(items: Vec<Value>) -> Result<Value, AllocError>
         ensures { IfOk result (λ v. view v ≡ list (values_view items.items)) }
@@ -66,6 +94,7 @@ impl Value {
             Value::Bool(b) => Parts::Bool(b),
             Value::Int(i) => Parts::Int(i),
             Value::Text(text) => Parts::Text(text),
+            Value::ShortText(text) => Parts::ShortText(text),
             Value::List(items) => Parts::List(items),
             Value::Map(entries) => Parts::Map(entries),
             Value::Node(id) => Parts::Node(id),
@@ -73,4 +102,11 @@ impl Value {
             Value::Path(path) => Parts::Path(path),
         }
     }
+}
+
+#[inline(never)]
+fn long_text(alloc: Global, content: &str) -> Result<Value, AllocError>
+    ensures { IfOk result (λ v. view v ≡ text content.now) }
+{
+    Ok(Value::Text(String::from_str(alloc, content)?))
 }

@@ -45,5 +45,8 @@ fn are_plain(items: &Vec<Value>) -> bool
 fn is_plain(value: &Value) -> bool
     ensures { result ≡ is_plain (view value.now) }
 {
-    matches!(value, Value::Bool(_) | Value::Int(_) | Value::Text(_))
+    matches!(
+        value,
+        Value::Bool(_) | Value::Int(_) | Value::Text(_) | Value::ShortText(_)
+    )
 }

@@ -1,4 +1,4 @@
-use Rattle.std.proofs.Common.{Ok, refl, sym, ap, ◌∙◌}
+use Rattle.std.proofs.Common.{Ok, sym, ap, ◌∙◌}
 use Rattle.pg_expr.proofs.ElementLemmas.{map_properties, element_given}
 use Rattle.pg_expr.proofs.Turns.{fault_gives}
 use Rattle.pg_expr.specs.Elements.{properties_given}

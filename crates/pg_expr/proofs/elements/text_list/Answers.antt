@@ -4,7 +4,7 @@ use Rattle.pg_expr.proofs.elements.text_list.Goals as goal
 pub loop-bytes-preserved : goal.loop-bytes-preserved
 loop-bytes-preserved c =
     let l = c.loop-bytes in
-    text_copied l.values.items c.deref-bytes-items.result.now l.bytes-index l.invariant _ c.in_ok-from_str.field-0 c.push.new.self.items c.loop-bytes-test.true c.in_ok-from_str.ensures.ok c.in_ok-push.ensures.items
+    text_copied l.values.items c.deref-bytes-items.result.now l.bytes-index l.invariant _ c.in_ok-text.field-0 c.push.new.self.items c.loop-bytes-test.true c.in_ok-text.ensures c.in_ok-push.ensures.items
 
 pub returns : goal.returns
 returns c =

@@ -1,13 +1,12 @@
 use Rattle.std.proofs.Common.{◌≡◌, Ok, refl, rules, sym, ap, subst, ◌∙◌, to_z, of_z}
 use Rattle.std.specs.Int.{w64}
-use Rattle.std.specs.Prelude.{string_bytes}
 use Rattle.pg_expr.proofs.ElementLemmas.{keys_told}
 use Rattle.pg_expr.specs.Contexts.{given}
 use Rattle.pg_expr.specs.Scalars.{scalar_view, Tells}
 use Rattle.pg_expr.specs.declared.scalar.Scalar.{Scalar}
 use Rattle.pg_meaning.specs.Value.{text}
 use Rattle.pg_syntax_tree.specs.View.{expression_view}
-use Rattle.pg_value_core.proofs.Forms.{null_seen, bool_seen, int_seen}
+use Rattle.pg_value_core.proofs.Forms.{null_seen, bool_seen, int_seen, short_seen}
 use Rattle.pg_value_core.specs.View.{view}
 use Rattle.pg_value_core.specs.declared.value.Value.TheVariants as code
 use Rattle.pg_expr.proofs.evaluation.owned.Goals as goal
@@ -34,7 +33,12 @@ returns-in-Int g c =
 pub returns-in-Text : goal.returns-in-Text
 returns-in-Text g c =
     let is = subst (λ (told : Scalar). Tells (scalar_view told) (given c.args.context.now c.args.graph.now (expression_view c.args.expression.now))) c.in-Text.is c.requires in
-    keys_told (text (string_bytes c.in-Text.text.now)) c.text_copied.result c.text_copied.ensures.ok c.text_copied.ensures.err is
+    keys_told (text c.as_str.result.now) c.text_copied.result c.text_copied.ensures.ok c.text_copied.ensures.err (is ∙ ap (λ bytes. Ok (text bytes)) (sym c.as_str.ensures.value))
+
+pub returns-in-ShortText : goal.returns-in-ShortText
+returns-in-ShortText g c =
+    let is = subst (λ (told : Scalar). Tells (scalar_view told) (given c.args.context.now c.args.graph.now (expression_view c.args.expression.now))) c.in-ShortText.is c.requires in
+    record { ok = is ∙ ap Ok (sym (short_seen c.in-ShortText.text.now refl)); err = tt }
 
 pub returns-in-Lent : goal.returns-in-Lent
 returns-in-Lent g c =

@@ -57,22 +57,25 @@ pub eq3-returns-in_default-2 : goal.eq3-returns-in_default-2
 eq3-returns-in_default-2 t c = let h = c.in_default in form.other_int c.args.b.now h.not-Null-1 c.args.a.now h.field-0-0 h.is-0 h.not-Int-1
 
 pub eq3-returns-in_default-3 : goal.eq3-returns-in_default-3
-eq3-returns-in_default-3 t c = let h = c.in_default in form.other_text c.args.b.now h.not-Null-1 c.args.a.now h.field-0-0 h.is-0 h.not-Text-1
+eq3-returns-in_default-3 t c = let h = c.in_default in form.other_text c.args.b.now h.not-Null-1 c.args.a.now h.field-0-0 h.is-0 h.not-Text-1 h.not-ShortText-1
 
 pub eq3-returns-in_default-4 : goal.eq3-returns-in_default-4
-eq3-returns-in_default-4 t c = let h = c.in_default in form.other_list c.args.b.now h.not-Null-1 c.args.a.now h.field-0-0 h.is-0 h.not-List-1
+eq3-returns-in_default-4 t c = let h = c.in_default in form.other_short c.args.b.now h.not-Null-1 c.args.a.now h.field-0-0 h.is-0 h.not-Text-1 h.not-ShortText-1
 
 pub eq3-returns-in_default-5 : goal.eq3-returns-in_default-5
-eq3-returns-in_default-5 t c = let h = c.in_default in form.other_map c.args.b.now h.not-Null-1 c.args.a.now h.field-0-0 h.is-0 h.not-Map-1
+eq3-returns-in_default-5 t c = let h = c.in_default in form.other_list c.args.b.now h.not-Null-1 c.args.a.now h.field-0-0 h.is-0 h.not-List-1
 
 pub eq3-returns-in_default-6 : goal.eq3-returns-in_default-6
-eq3-returns-in_default-6 t c = let h = c.in_default in form.other_node c.args.b.now h.not-Null-1 c.args.a.now h.field-0-0 h.is-0 h.not-Node-1
+eq3-returns-in_default-6 t c = let h = c.in_default in form.other_map c.args.b.now h.not-Null-1 c.args.a.now h.field-0-0 h.is-0 h.not-Map-1
 
 pub eq3-returns-in_default-7 : goal.eq3-returns-in_default-7
-eq3-returns-in_default-7 t c = let h = c.in_default in form.other_rel c.args.b.now h.not-Null-1 c.args.a.now h.field-0-0 h.is-0 h.not-Rel-1
+eq3-returns-in_default-7 t c = let h = c.in_default in form.other_node c.args.b.now h.not-Null-1 c.args.a.now h.field-0-0 h.is-0 h.not-Node-1
 
 pub eq3-returns-in_default-8 : goal.eq3-returns-in_default-8
-eq3-returns-in_default-8 t c = let h = c.in_default in form.other_path c.args.b.now h.not-Null-1 c.args.a.now h.field-0-0 h.is-0 h.not-Path-1
+eq3-returns-in_default-8 t c = let h = c.in_default in form.other_rel c.args.b.now h.not-Null-1 c.args.a.now h.field-0-0 h.is-0 h.not-Rel-1
+
+pub eq3-returns-in_default-9 : goal.eq3-returns-in_default-9
+eq3-returns-in_default-9 t c = let h = c.in_default in form.other_path c.args.b.now h.not-Null-1 c.args.a.now h.field-0-0 h.is-0 h.not-Path-1
 
 pub eq3-returns-in-Null-default : goal.eq3-returns-in-Null-default
 eq3-returns-in-Null-default t c = form.null_left c.args.a.now c.args.b.now c.in-Null-default.is-0

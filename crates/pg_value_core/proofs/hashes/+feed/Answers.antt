@@ -14,6 +14,9 @@ feed-returns-in-Bool g t c = c.hash.ensures ∙ lemma.of_form g.H.Hasher.write c
 pub feed-returns-in-Text : goal.feed-returns-in-Text
 feed-returns-in-Text g t c = c.hash-in-Text.ensures ∙ lemma.of_form g.H.Hasher.write c.args.state.now c.write_u64.new.self c.rank.result c.args.value.now _ _ (form.text_seen c.in-Text.text c.in-Text.is) c.rank.ensures c.write_u64.ensures refl
 
+pub feed-returns-in-ShortText : goal.feed-returns-in-ShortText
+feed-returns-in-ShortText g t c = c.hash-in-ShortText.ensures ∙ lemma.of_form g.H.Hasher.write c.args.state.now c.write_u64.new.self c.rank.result c.args.value.now _ _ (form.short_seen c.in-ShortText.text c.in-ShortText.is) c.rank.ensures c.write_u64.ensures refl
+
 pub feed-returns-in-Node : goal.feed-returns-in-Node
 feed-returns-in-Node g t c = c.write_u64-in-Node.ensures ∙ lemma.of_form g.H.Hasher.write c.args.state.now c.write_u64.new.self c.rank.result c.args.value.now _ _ (form.node_seen c.in-Node.id c.in-Node.is) c.rank.ensures c.write_u64.ensures refl
 

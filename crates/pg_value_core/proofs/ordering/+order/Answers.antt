@@ -44,6 +44,11 @@ order_any-returns-in-Text-Text t c =
     let h = c.in-Text-Text in
     c.cmp-in-Text-Text.ensures ∙ lemma.both_seen c.args.a.now c.args.b.now _ _ (form.text_seen h.x h.is-0) (form.text_seen h.y h.is-1)
 
+pub order_any-returns-in-ShortText-ShortText : goal.order_any-returns-in-ShortText-ShortText
+order_any-returns-in-ShortText-ShortText t c =
+    let h = c.in-ShortText-ShortText in
+    c.cmp-in-ShortText-ShortText.ensures ∙ lemma.both_seen c.args.a.now c.args.b.now _ _ (form.short_seen h.x h.is-0) (form.short_seen h.y h.is-1)
+
 pub order_any-returns-in-Bool-Bool : goal.order_any-returns-in-Bool-Bool
 order_any-returns-in-Bool-Bool t c =
     let h = c.in-Bool-Bool in
@@ -65,7 +70,8 @@ order_any-returns-in_default t c =
       | goal.order_any-in_default-via-in-Rel+in_default w ↦ lemma.other_rel b a w.in_default.field-0-0 w.in_default.is-0 w.in_default.not-Rel-1
       | goal.order_any-in_default-via-in-List+in_default w ↦ lemma.other_list b a w.in_default.field-0-0 w.in_default.is-0 w.in_default.not-List-1
       | goal.order_any-in_default-via-in-Path+in_default w ↦ lemma.other_path b a w.in_default.field-0-0 w.in_default.is-0 w.in_default.not-Path-1
-      | goal.order_any-in_default-via-in-Text+in_default w ↦ lemma.other_text b a w.in_default.field-0-0 w.in_default.is-0 w.in_default.not-Text-1
+      | goal.order_any-in_default-via-in-Text+in_default w ↦ lemma.other_text b a w.in_default.field-0-0 w.in_default.is-0 w.in_default.not-Text-1 w.in_default.not-ShortText-1
+      | goal.order_any-in_default-via-in-ShortText+in_default w ↦ lemma.other_short b a w.in_default.field-0-0 w.in_default.is-0 w.in_default.not-Text-1 w.in_default.not-ShortText-1
       | goal.order_any-in_default-via-in-Bool+in_default w ↦ lemma.other_bool b a w.in_default.field-0-0 w.in_default.is-0 w.in_default.not-Bool-1
       | goal.order_any-in_default-via-in-Int+in_default w ↦ lemma.other_int b a w.in_default.field-0-0 w.in_default.is-0 w.in_default.not-Int-1
       | goal.order_any-in_default-via-in_default w ↦ lemma.of_null b a w.in_default.is-0

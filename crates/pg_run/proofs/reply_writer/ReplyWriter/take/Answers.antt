@@ -1,8 +1,9 @@
 use Rattle.std.proofs.Common.{rules, ◌-◌, arith, ap, sym, ◌∙◌, refl}
 use Rattle.pg_json.specs.Replies.{data_of}
 use Rattle.pg_meaning.specs.Queries.{test_output}
+use Rattle.pg_meaning.specs.Value.{text}
 use Rattle.pg_run.proofs.Tells.{none_of, one_fault, one_more, one_scalar, still_faulted}
-use Rattle.pg_run.proofs.ValueLemmas.{bool_seen, bool_shown, int_put, int_seen, null_seen, null_shown, text_put, text_seen}
+use Rattle.pg_run.proofs.ValueLemmas.{bool_seen, bool_shown, int_put, int_seen, null_seen, null_shown, short_seen, text_put, text_seen}
 use Rattle.pg_value_core.specs.View.{view}
 use Rattle.pg_run.proofs.reply_writer.ReplyWriter.take.Goals as goal
 
@@ -49,5 +50,15 @@ returns-in-Text-clause-telling g c = λ notes columns rows row h.
     let graph = c.args.graph.now in
     let v = c.args.value.now in
     let none = none_of c.args.self.now.fault (sym c.is_some.ensures ∙ c.if-is_some.false) in
-    one_scalar graph notes columns rows row c.args.self.now (view v) h c.put_text.result _ _ _ none none refl (ap (test_output graph) (text_seen v c.in-Text.text c.in-Text.is)) c.saturating_sub-self.ensures
-    (text_put graph v c.in-Text.text c.deref.result.now c.in-Text.is c.deref.ensures) c.put_text.ensures
+    let seen = text_seen v c.in-Text.text c.in-Text.is ∙ ap text (sym c.as_str.ensures.value) in
+    one_scalar graph notes columns rows row c.args.self.now (view v) h c.put_text.result _ _ _ none none refl (ap (test_output graph) seen) c.saturating_sub-self.ensures
+    (text_put graph v c.as_str.result.now seen) c.put_text.ensures
+
+pub returns-in-ShortText-clause-telling : goal.returns-in-ShortText-clause-telling
+returns-in-ShortText-clause-telling g c = λ notes columns rows row h.
+    let graph = c.args.graph.now in
+    let v = c.args.value.now in
+    let none = none_of c.args.self.now.fault (sym c.is_some.ensures ∙ c.if-is_some.false) in
+    let seen = short_seen v c.in-ShortText.text c.in-ShortText.is ∙ ap text (sym c.as_str-in-ShortText.ensures.value) in
+    one_scalar graph notes columns rows row c.args.self.now (view v) h c.put_text-in-ShortText.result _ _ _ none none refl (ap (test_output graph) seen) c.saturating_sub-self.ensures
+    (text_put graph v c.as_str-in-ShortText.result.now seen) c.put_text-in-ShortText.ensures

@@ -15,7 +15,7 @@ use Rattle.pg_meaning.specs.Order.{text_order}
 use Rattle.pg_meaning.specs.Value.{Value as Datum, Values, no_items, item, Entries, entry, null, boolean, text, list}
 use Rattle.pg_json.specs.Given.{value_within, values_within, entries_within, if_room}
 use Rattle.pg_value_core.specs.View.{view, values_view}
-use Rattle.pg_value_core.specs.declared.value.Value.{Value, Null as NullValue, Bool as BoolValue, Text as TextValue, the_lemmas}
+use Rattle.pg_value_core.specs.declared.value.Value.{Value, Null as NullValue, Bool as BoolValue, the_lemmas}
 
 -- ---- lists
 
@@ -123,9 +123,6 @@ view_null = search (rules, the_lemmas)
 view_bool : (b : Bool) → view (BoolValue b) ≡ boolean b
 view_bool b = search (rules, the_lemmas)
 
-view_text : (s : String Global) → view (TextValue s) ≡ text (string_bytes s)
-view_text s = search (rules, the_lemmas)
-
 module _ (n : ℕ) (some : n ≢ 0) where
   pub null_within : value_within n (data_view DataNull) ≡ Some (view NullValue)
   null_within = rw (data_null, view_null) (has_room n (Some null) some)
@@ -133,8 +130,8 @@ module _ (n : ℕ) (some : n ≢ 0) where
   pub bool_within : (b : Bool) → value_within n (data_view (DataBool b)) ≡ Some (view (BoolValue b))
   bool_within b = rw (data_bool b, view_bool b) (has_room n (Some (boolean b)) some)
 
-  pub text_within : (given copy : String Global) → string_bytes copy ≡ string_bytes given → value_within n (data_view (DataString given)) ≡ Some (view (TextValue copy))
-  text_within given copy same = rw (data_string given, view_text copy) (has_room n (Some (text (string_bytes given))) some ∙ ap (λ bytes. Some (text bytes)) (sym same))
+  pub text_within : (given : String Global) (v : Datum) → v ≡ text (string_bytes given) → value_within n (data_view (DataString given)) ≡ Some v
+  text_within given v same = rw (data_string given) (has_room n (Some (text (string_bytes given))) some ∙ ap (λ u. Some u) (sym same))
 
   pub list_within : (ds : Vec Data Global) (vs : List Value) (v : Value) → view v ≡ list (values_view vs) → values_within (n - 1) (items_view ds.items) ≡ Some (values_view vs) → value_within n (data_view (Array ds)) ≡ Some (view v)
   list_within ds vs v seen h = rw (data_array ds, seen) (has_room n (option_map list (values_within (n - 1) (items_view ds.items))) some ∙ ap (option_map list) h)

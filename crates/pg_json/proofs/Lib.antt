@@ -1,3 +1,4 @@
+pub mod Added
 pub mod Asking
 pub mod Codes
 pub mod Converting
@@ -15,6 +16,7 @@ pub mod RowsText
 pub mod Strangers
 pub mod Lengths
 pub mod Meanings
+pub mod Numbers
 pub mod Taking
 pub mod Texts
 pub mod Writing

@@ -7,6 +7,7 @@ pub mod Refusals
 pub mod Bytes
 pub mod Room
 pub mod Given
+pub mod Added
 pub mod Fields
 pub mod Operations
 pub mod Laws

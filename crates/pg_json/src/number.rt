@@ -1,5 +1,6 @@
 //! Whole numbers as JSON writes them.
-ghost use Rattle.std.specs.Prelude.{◌≡◌, ◌==◌, ◌<◌, ◌≤◌, IsTrue, IfSome, Some, length, slice_index, true, false};
+ghost use Rattle.std.specs.Prelude.{◌≡◌, ◌==◌, ◌^◌, ◌<◌, ◌≤◌, IsTrue, IfSome, Some, length, slice_index, true, false};
+ghost use Rattle.std.specs.Str.Parse.{IsNumeral, digits_value};
 ghost use Rattle.fast_float.specs.Text.{minus};
 ghost use Rattle.serde_json.specs.Data.{unsigned};
 ghost use Rattle.serde_json.specs.Find.{as_i64, of_integer};
@@ -9,7 +10,41 @@ ghost use Rattle.pg_meaning.specs.Meters.{greatest_id};
 use fast_float::Numeral;
 
 /// The whole number of 64 bits that a number's text writes, if it is one. The negative zero is none.
+#[inline(always)]
 pub(crate) fn whole_number(text: &str) -> Option<i64>
+    ensures read { IfSome result (λ z. number_of text.now ≡ Some (of_integer z)) }
+    ensures fits { IfSome result (λ z. as_i64 (of_integer z) ≡ Some z) }
+{
+    match short_number(text.as_bytes()) {
+        Some(number) => Some(number as i64),
+        None => any_number(text),
+    }
+}
+
+/// The number that at most 18 digits, and nothing else, write.
+#[inline(always)]
+fn short_number(bytes: &[u8]) -> Option<u64>
+    ensures digits { IfSome result (λ _. IsNumeral 10 bytes.now) }
+    ensures value { IfSome result (λ n. n ≡ digits_value 10 bytes.now) }
+    ensures within { IfSome result (λ n. n < 2 ^ 63) }
+{
+    if bytes.is_empty() || bytes.len() > 18 {
+        return None;
+    }
+    let mut number = 0;
+    for byte in bytes {
+        let digit = u64::from(*byte).wrapping_sub(48);
+        if digit > 9 {
+            return None;
+        }
+        number = number * 10 + digit;
+    }
+    Some(number)
+}
+
+/// The same of any text.
+#[inline(never)]
+fn any_number(text: &str) -> Option<i64>
     ensures read { IfSome result (λ z. number_of text.now ≡ Some (of_integer z)) }
     ensures fits { IfSome result (λ z. as_i64 (of_integer z) ≡ Some z) }
 {

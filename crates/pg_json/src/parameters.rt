@@ -1,13 +1,15 @@
 //! The parameters of a query, read token by token.
-ghost use Rattle.std.specs.Prelude.{◌≡◌, ◌<◌, ◌+◌, ◌∷◌, ℕ, List, length, Some, IfOk, OnOk, map};
+ghost use Rattle.std.specs.Prelude.{◌≡◌, ◌<◌, ◌≤◌, ◌+◌, [], ◌∷◌, ◌++◌, length, string_bytes, Some, IfOk, OnOk};
 ghost use Rattle.json.specs.Json.{value, members};
 ghost use Rattle.json.specs.Token as tokens;
 ghost use Rattle.json.specs.Reads.{token_of};
 ghost use Rattle.serde_json.specs.Data.{no_members};
 ghost use Rattle.serde_json.specs.Read.{of_json, of_members, converted};
+ghost use Rattle.pg_meaning.specs.Entries.{with_entry};
 ghost use Rattle.pg_meaning.specs.Measure.{greatest_depth};
+ghost use Rattle.pg_json.specs.Added.{BeginsWith, AddsItem, AddsEntry};
 ghost use Rattle.pg_json.specs.Fields.{object_giving};
-ghost use Rattle.pg_json.specs.Given.{data_giving, members_giving, IsGiven, EntriesAreGiven};
+ghost use Rattle.pg_json.specs.Given.{members_giving, EntriesAreGiven};
 ghost use Rattle.pg_value_core.specs.View.{view, entries_view};
 
 use crate::number::whole_number;
@@ -38,54 +40,7 @@ pub(crate) fn read_parameters(
     Ok(members)
 }
 
-/// The value that comes next, if it may be a parameter's and is at most so deep.
-#[cycle(read)]
-fn read(alloc: Global, reader: &mut Reader<'_>, room: usize) -> Result<Value, Unread>
-    ensures ok { IfOk result (λ v. converted of_json (value (room + 61) reader.old)
-        ≡ Some (data_giving (view v), reader.new)) }
-    ensures given { IfOk result (λ v. IsGiven room (view v)) }
-    ensures shorter { OnOk result (length reader.new < length reader.old) }
-{
-    if room == 0 {
-        return Err(Unread::Unclear);
-    }
-    match reader.next() {
-        Some(Token::BeginArray) => {
-            let mut found = Vec::new(alloc);
-            'items: while !reader.take_end_array() {
-                let item = read(alloc, reader, room - 1)?;
-                found.push(item)?;
-            }
-            Ok(Value::list(found)?)
-        }
-        Some(Token::BeginObject) => {
-            let entries = read_members(alloc, reader, room - 1)?;
-            Ok(Value::map(alloc, entries)?)
-        }
-        Some(token) => scalar(alloc, token),
-        None => Err(Unread::Unclear),
-    }
-}
-
-/// The value that one token is.
-fn scalar(alloc: Global, token: Token<'_>) -> Result<Value, Unread>
-    ensures ok { (depth : ℕ) (rest : List tokens.Token)
-        → IfOk result (λ v. converted of_json (value depth (token_of token.entry ∷ rest))
-        ≡ Some (data_giving (view v), rest)) }
-    ensures given { (room : ℕ) → 0 < room → IfOk result (λ v. IsGiven room (view v)) }
-{
-    match token {
-        Token::Null => Ok(Value::Null),
-        Token::Bool(b) => Ok(Value::Bool(b)),
-        Token::Number(text) => match whole_number(text) {
-            Some(number) => Ok(Value::Int(number)),
-            None => Err(Unread::Unclear),
-        },
-        Token::String(text) => Ok(Value::Text(String::from_str(alloc, text)?)),
-        _ => Err(Unread::Unclear),
-    }
-}
-
+/// The entries that come next, up to the brace that closes them.
 #[cycle(read)]
 fn read_members(
     alloc: Global,
@@ -106,7 +61,142 @@ fn read_members(
             Err(_) => return Err(Unread::Unclear),
         };
         let key = String::from_str(alloc, name)?;
-        let value = read(alloc, reader, room)?;
-        put_entry(&mut found, key, value)?;
+        let Some(token) = reader.next() else {
+            return Err(Unread::Unclear);
+        };
+        add_entry(alloc, reader, token, room, &mut found, key)?;
     }
+}
+
+/// Puts the value that begins with this token at the key.
+#[cycle(read)]
+#[inline(always)]
+fn add_entry(
+    alloc: Global,
+    reader: &mut Reader<'_>,
+    token: Token<'_>,
+    room: usize,
+    entries: &mut BTreeMap<String, Value>,
+    key: String,
+) -> Result<(), Unread>
+    ensures ok { OnOk result (AddsEntry room (token_of token.entry ∷ reader.old) reader.new
+        (string_bytes key) (entries_view entries.old.entries) (entries_view entries.new.entries)) }
+    ensures shorter { OnOk result (length reader.new ≤ length reader.old) }
+{
+    if room == 0 {
+        return Err(Unread::Unclear);
+    }
+    match token {
+        Token::Number(text) => match whole_number(text) {
+            Some(number) => put_value(entries, key, Value::Int(number)),
+            None => Err(Unread::Unclear),
+        },
+        Token::String(text) => put_value(entries, key, Value::text(alloc, text)?),
+        token => put_value(entries, key, other_value(alloc, reader, token, room)?),
+    }
+}
+
+/// Puts a value at the key.
+#[inline(always)]
+fn put_value(entries: &mut BTreeMap<String, Value>, key: String, value: Value) -> Result<(), Unread>
+    ensures { OnOk result (entries_view entries.new.entries
+        ≡ with_entry (string_bytes key) (view value) (entries_view entries.old.entries)) }
+{
+    put_entry(entries, key, value)?;
+    Ok(())
+}
+
+/// The value that begins with this token and is no number and no text, if it may be a parameter's.
+#[cycle(read)]
+#[inline(always)]
+fn other_value(
+    alloc: Global,
+    reader: &mut Reader<'_>,
+    token: Token<'_>,
+    room: usize,
+) -> Result<Value, Unread>
+    ensures ok { IfOk result
+        (λ v. BeginsWith room (token_of token.entry ∷ reader.old) (view v) reader.new) }
+    ensures shorter { OnOk result (length reader.new ≤ length reader.old) }
+{
+    if room == 0 {
+        return Err(Unread::Unclear);
+    }
+    match token {
+        Token::Null => Ok(Value::Null),
+        Token::Bool(b) => Ok(Value::Bool(b)),
+        Token::BeginArray => read_list(alloc, reader, room - 1),
+        Token::BeginObject => read_map(alloc, reader, room - 1),
+        _ => Err(Unread::Unclear),
+    }
+}
+
+/// The map whose members come next, if their values may be so deep.
+#[cycle(read)]
+#[inline(never)]
+fn read_map(alloc: Global, reader: &mut Reader<'_>, room: usize) -> Result<Value, Unread>
+    ensures ok { IfOk result
+        (λ v. BeginsWith (room + 1) (tokens.begin_object ∷ reader.old) (view v) reader.new) }
+    ensures shorter { OnOk result (length reader.new ≤ length reader.old) }
+{
+    let entries = read_members(alloc, reader, room)?;
+    Ok(Value::map(alloc, entries)?)
+}
+
+/// The list whose items come next, if they may be so deep.
+#[cycle(read)]
+#[inline(never)]
+fn read_list(alloc: Global, reader: &mut Reader<'_>, room: usize) -> Result<Value, Unread>
+    ensures ok { IfOk result
+        (λ v. BeginsWith (room + 1) (tokens.begin_array ∷ reader.old) (view v) reader.new) }
+    ensures shorter { OnOk result (length reader.new ≤ length reader.old) }
+{
+    let mut found = Vec::new(alloc);
+    'items: loop {
+        match reader.next() {
+            Some(Token::EndArray) => return Ok(Value::list(found)?),
+            Some(token) => add_item(alloc, reader, token, room, &mut found)?,
+            None => return Err(Unread::Unclear),
+        }
+    }
+}
+
+/// Puts the value that begins with this token behind the items. It mostly is a number or a text.
+#[cycle(read)]
+#[inline(always)]
+fn add_item(
+    alloc: Global,
+    reader: &mut Reader<'_>,
+    token: Token<'_>,
+    room: usize,
+    items: &mut Vec<Value>,
+) -> Result<(), Unread>
+    ensures ok { OnOk result (AddsItem room (token_of token.entry ∷ reader.old) reader.new
+        items.old.items items.new.items) }
+    ensures shorter { OnOk result (length reader.new ≤ length reader.old) }
+{
+    if room == 0 {
+        return Err(Unread::Unclear);
+    }
+    match token {
+        Token::Number(text) => match whole_number(text) {
+            Some(number) => push_value(items, Value::Int(number)),
+            None => Err(Unread::Unclear),
+        },
+        Token::String(text) => push_value(items, Value::text(alloc, text)?),
+        token => push_value(items, other_value(alloc, reader, token, room)?),
+    }
+}
+
+/// Puts a value behind the items. Mostly there is room, and then it is written where it stays.
+#[inline(always)]
+fn push_value(items: &mut Vec<Value>, value: Value) -> Result<(), Unread>
+    ensures { OnOk result (items.new.items ≡ items.old.items ++ value ∷ []) }
+{
+    if items.len() < items.capacity() {
+        items.push_reserved(value);
+        return Ok(());
+    }
+    items.push(value)?;
+    Ok(())
 }

@@ -30,7 +30,7 @@ fn value_from(alloc: Global, given: &Data, room: usize) -> Result<Value, Fault>
             Some(whole) => Ok(Value::Int(whole)),
             None => Err(Fault::BadRequest),
         },
-        Data::String(text) => Ok(Value::Text(String::from_str(alloc, text.as_str())?)),
+        Data::String(text) => Ok(Value::text(alloc, text.as_str())?),
         Data::Array(items) => {
             let mut values = Vec::with_capacity(alloc, items.len())?;
             for item in items {

@@ -1,25 +1,14 @@
-use Rattle.std.proofs.Common.{◌≡◌, drop, get_or, true, false, ◌==◌, IfSome, Some, sym, ap, subst, ◌∙◌, arith, take_all, length-drop}
-use Rattle.fast_float.specs.Text.{scan}
+use Rattle.std.proofs.Common.{◌≡◌, Some, pos, to_z, w64, sym, ap, ◌∙◌, arith, rules}
+use Rattle.serde_json.specs.Data.{unsigned}
 use Rattle.serde_json.specs.Find.{of_integer}
-use Rattle.serde_json.specs.Read.{number_of, number_from}
+use Rattle.serde_json.specs.Read.{number_of}
+use Rattle.pg_json.proofs.Numbers.{number_of-digits}
 use Rattle.pg_json.proofs.number.whole_number.Goals as goal
 
-pub returns-then-has_minus-clause-read : goal.returns-then-has_minus-clause-read
-unfolding number_of
-returns-then-has_minus-clause-read c =
-    let s = c.as_bytes-bytes.result.now in
-    let signed : (get_or s 0 0 == 45) ≡ true = sym c.if-has_minus.ensures.value in
-    let parts : c.scan.result ≡ scan (drop 1 s) = c.scan.ensures.parts ∙ ap scan (take_all _ (drop 1 s) (omega (arith, length-drop 1 s))) in
-    let read : number_from true (scan (drop 1 s)) ≡ number_of s = rw signed in
-    let all : number_from true c.scan.result ≡ number_of c.args.text.now = ap (number_from true) parts ∙ read ∙ ap number_of c.as_bytes-bytes.ensures.value in
-    subst (λ m. IfSome c.below_zero.result (λ z. m ≡ Some (of_integer z))) all c.below_zero.ensures.read
-
-pub returns-else-has_minus-clause-read : goal.returns-else-has_minus-clause-read
-unfolding number_of
-returns-else-has_minus-clause-read c =
-    let s = c.as_bytes-bytes.result.now in
-    let unsigned : (get_or s 0 0 == 45) ≡ false = sym c.if-has_minus.ensures.value in
-    let read : number_from false (scan s) ≡ number_of s = rw unsigned in
-    let all : number_from false c.scan-else-has_minus.result ≡ number_of c.args.text.now =
-    ap (number_from false) c.scan-else-has_minus.ensures.parts ∙ read ∙ ap number_of c.as_bytes-bytes.ensures.value in
-    subst (λ m. IfSome c.from_zero.result (λ z. m ≡ Some (of_integer z))) all c.from_zero.ensures.read
+pub returns-in-Some-clause-read : goal.returns-in-Some-clause-read
+returns-in-Some-clause-read c =
+    let text = c.as_bytes.result.now in
+    let n = c.in-Some.number in
+    let is : to_z w64 n ≡ pos n = search rules in
+    ap number_of (sym c.as_bytes.ensures.value) ∙ number_of-digits text c.in-Some.ensures.digits (omega (arith, c.in-Some.ensures.within, c.in-Some.ensures.value))
+    ∙ ap (λ m. Some (unsigned m)) (sym c.in-Some.ensures.value) ∙ ap (λ z. Some (of_integer z)) (sym is)

@@ -7,6 +7,7 @@ use Rattle.std.specs.String.{string_cmp}
 use Rattle.serde_json.specs.View.{items_view, members_view}
 use Rattle.serde_json.proofs.Views.{Entry}
 use Rattle.pg_meaning.specs.Entries.{with_entry}
+use Rattle.pg_meaning.specs.Value.{text}
 use Rattle.pg_json.specs.Given.{values_within, entries_within}
 use Rattle.pg_json.proofs.Converting.{one_more_value, no_value, all_values, after, one_more_entry, refused_entries, no_room, null_within, bool_within, text_within, list_within, list_refused}
 use Rattle.pg_value_core.specs.View.{view, entries_view}
@@ -109,14 +110,14 @@ value_from-returns-in_err-push-in-Array-clause-kind t c = fault_passed (λ e. e 
 pub value_from-returns-in_err-push-in-Array-clause-refused : goal.value_from-returns-in_err-push-in-Array-clause-refused
 value_from-returns-in_err-push-in-Array-clause-refused t c = fault_passed (λ e. e ≢ OutOfMemory → value_within c.args.room (data_view c.args.given.now) ≡ None) OutOfMemory c.from_residual-in_err-push-in-Array.result c.from_residual-in_err-push-in-Array.ensures.1 (λ other. absurd (other refl))
 
-pub value_from-returns-in_err-from_str-in-String-clause-ok : goal.value_from-returns-in_err-from_str-in-String-clause-ok
-value_from-returns-in_err-from_str-in-String-clause-ok t c = IfOk-from_err c.from_residual.result _ c.from_residual.ensures.0
+pub value_from-returns-in_err-text-in-String-clause-ok : goal.value_from-returns-in_err-text-in-String-clause-ok
+value_from-returns-in_err-text-in-String-clause-ok t c = IfOk-from_err c.from_residual.result _ c.from_residual.ensures.0
 
-pub value_from-returns-in_err-from_str-in-String-clause-kind : goal.value_from-returns-in_err-from_str-in-String-clause-kind
-value_from-returns-in_err-from_str-in-String-clause-kind t c = fault_passed (λ e. e ≢ OutOfMemory → e ≡ BadRequest) OutOfMemory c.from_residual.result c.from_residual.ensures.1 (λ other. absurd (other refl))
+pub value_from-returns-in_err-text-in-String-clause-kind : goal.value_from-returns-in_err-text-in-String-clause-kind
+value_from-returns-in_err-text-in-String-clause-kind t c = fault_passed (λ e. e ≢ OutOfMemory → e ≡ BadRequest) OutOfMemory c.from_residual.result c.from_residual.ensures.1 (λ other. absurd (other refl))
 
-pub value_from-returns-in_err-from_str-in-String-clause-refused : goal.value_from-returns-in_err-from_str-in-String-clause-refused
-value_from-returns-in_err-from_str-in-String-clause-refused t c = fault_passed (λ e. e ≢ OutOfMemory → value_within c.args.room (data_view c.args.given.now) ≡ None) OutOfMemory c.from_residual.result c.from_residual.ensures.1 (λ other. absurd (other refl))
+pub value_from-returns-in_err-text-in-String-clause-refused : goal.value_from-returns-in_err-text-in-String-clause-refused
+value_from-returns-in_err-text-in-String-clause-refused t c = fault_passed (λ e. e ≢ OutOfMemory → value_within c.args.room (data_view c.args.given.now) ≡ None) OutOfMemory c.from_residual.result c.from_residual.ensures.1 (λ other. absurd (other refl))
 
 pub value_from-returns-in_ok-list-in-Array-clause-ok : goal.value_from-returns-in_ok-list-in-Array-clause-ok
 value_from-returns-in_ok-list-in-Array-clause-ok t c =
@@ -136,7 +137,6 @@ value_from-returns-in-Null-clause-ok t c = rw c.in-Null.is (null_within c.args.r
 pub value_from-returns-in-Bool-clause-ok : goal.value_from-returns-in-Bool-clause-ok
 value_from-returns-in-Bool-clause-ok t c = rw c.in-Bool.is (bool_within c.args.room c.if-room-eq0.false c.in-Bool.b)
 
-pub value_from-returns-in_ok-from_str-in-String-clause-ok : goal.value_from-returns-in_ok-from_str-in-String-clause-ok
-value_from-returns-in_ok-from_str-in-String-clause-ok t c =
-    let copied : string_bytes c.in_ok-from_str-in-String.field-0 ≡ string_bytes c.in-String.text = search rules in
-    rw c.in-String.is (text_within c.args.room c.if-room-eq0.false c.in-String.text c.in_ok-from_str-in-String.field-0 copied)
+pub value_from-returns-in_ok-text-in-String-clause-ok : goal.value_from-returns-in_ok-text-in-String-clause-ok
+value_from-returns-in_ok-text-in-String-clause-ok t c =
+    rw c.in-String.is (text_within c.args.room c.if-room-eq0.false c.in-String.text (view c.in_ok-text-in-String.field-0) (c.in_ok-text-in-String.ensures ∙ ap text c.as_str.ensures.value))

@@ -62,6 +62,21 @@ impl<K: TextSet> Names<K> {
         ensures keeps { KeepsNames self.old self.new }
         ensures distinct { OnOk result (AreDistinct self.new) }
     {
+        if let Some(number) = self.find_recent(text) {
+            return Ok(number);
+        }
+        self.intern_hashed(text)
+    }
+
+    // The same of a text that wasn't put or asked for lately.
+    #[inline(never)]
+    fn intern_hashed(&mut self, text: &str) -> Result<NameId, AllocError>
+        ensures number { IfOk result (λ n. slice_get self.new n ≡ Some text.now) }
+        ensures grown { OnOk result (self.new ≡ with_name self.old text.now) }
+        ensures err { OnErr result (self.new ≡ self.old) }
+        ensures keeps { KeepsNames self.old self.new }
+        ensures distinct { OnOk result (AreDistinct self.new) }
+    {
         let number = self.number_of(text)?;
         self.note(text, number);
         Ok(number)
@@ -74,7 +89,7 @@ impl<K: TextSet> Names<K> {
         ensures keeps { KeepsNames self.old self.new }
         ensures distinct { OnOk result (AreDistinct self.new) }
     {
-        if let Some(number) = self.find(text) {
+        if let Some(number) = self.find_hashed(text) {
             return Ok(number);
         }
         let owned = String::from_str(self.alloc, text)?;

@@ -1,11 +1,11 @@
 -- One change of a record, taken back, and the sets where its id then has to be.
-use Rattle.std.proofs.Common.{◌≡◌, ◌==◌, ◌||◌, ℕ, Bool, true, false, cond, List, [], ◌∷◌, Option, Some, None, Ordering, Less, Equal, Greater, arith, refl, sym, ap, subst, ◌∙◌}
+use Rattle.std.proofs.Common.{◌≡◌, ◌≢◌, ◌==◌, ◌||◌, ℕ, Bool, true, false, cond, List, [], ◌∷◌, Option, Some, None, Ordering, Less, Equal, Greater, arith, refl, sym, ap, subst, ◌∙◌}
 use Rattle.std.proofs.lemmas.Bool.Decides.{nat_tests}
 use Rattle.std.specs.FinMap as map
 use Rattle.std.specs.List.{list_any}
 use Rattle.std.specs.Option.{option_map}
 use Rattle.std.specs.Ordering.{nat_cmp, match_ordering}
-use Rattle.pg_graph.proofs.Maps.{removed_inserted, put_back}
+use Rattle.pg_graph.proofs.Maps.{get_inserted_other, get_removed_other, removed_inserted, put_back}
 use Rattle.pg_graph.proofs.Named.{either_same, either_swap}
 use Rattle.pg_graph.proofs.SortedLists.{equal}
 use Rattle.pg_graph.specs.Records.{Properties, given_back, with_label, without_label}
@@ -21,6 +21,10 @@ use Rattle.pg_value_core.specs.declared.value.Value.{Value}
 pub given_back_is : (ps : Properties) (key : ℕ) (v : meaning.Value) (before : Option Value) → option_map view before ≡ map.get ps key → given_back (map.insert ps key v) key before ≡ ps
 given_back_is ps key v None is = removed_inserted ps key v (sym is)
 given_back_is ps key v (Some b) is = put_back ps key v (view b) (sym is)
+
+pub given_back_elsewhere : (ps : Properties) (key changed : ℕ) (before : Option Value) → key ≢ changed → map.get (given_back ps changed before) key ≡ map.get ps key
+given_back_elsewhere ps key changed None ne = get_removed_other ps changed key ne
+given_back_elsewhere ps key changed (Some v) ne = get_inserted_other ps changed (view v) key ne
 
 same_number : (n : ℕ) → (n == n) ≡ true
 same_number n = grind (arith, nat_tests)

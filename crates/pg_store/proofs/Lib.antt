@@ -22,3 +22,4 @@ pub mod Filling
 pub mod Listings
 pub mod BlankPlaces
 pub mod Typing
+pub mod Keeping

@@ -1,5 +1,5 @@
 //! One change of a record in its place, and what takes it back.
-ghost use Rattle.std.specs.Prelude.{◌≡◌, Some, OnOk, OnErr, IfOk, IfSome, IfNone};
+ghost use Rattle.std.specs.Prelude.{◌≡◌, true, Some, OnOk, OnErr, IfOk, IfSome, IfNone};
 ghost use Rattle.std.specs.FinMap as map;
 ghost use Rattle.pg_graph.specs.Records as records;
 ghost use Rattle.pg_meaning.specs.Value as meaning;
@@ -60,6 +60,17 @@ impl PropertiesBefore {
             PropertiesBefore::Key(_, _) => None,
             PropertiesBefore::Places(_) => None,
             PropertiesBefore::All(properties) => properties.get(key),
+        }
+    }
+
+    // Whether the change surely leaves alone what stands under a key.
+    pub(crate) fn keeps(&self, key: NameId) -> bool
+        ensures { result ≡ true → (ps : records.Properties)
+            → map.get (properties_before self.now ps) key ≡ map.get ps key }
+    {
+        match self {
+            PropertiesBefore::Key(changed, _) => changed.as_u64() != key.as_u64(),
+            PropertiesBefore::Places(_) | PropertiesBefore::All(_) => false,
         }
     }
 }

@@ -1,8 +1,9 @@
 //! A node changed in its place, and its id put where it then belongs.
 ghost use Rattle.std.specs.Prelude.{◌≡◌, ◌==◌, ◌||◌, ℕ, true, false, OnOk, OnErr, IfOk};
+ghost use Rattle.std.specs.FinMap as map;
 ghost use Rattle.std.specs.List.{list_any};
-ghost use Rattle.pg_graph.specs.Records.{with_label};
-ghost use Rattle.pg_index.specs.Properties.{all_find, is_found_by};
+ghost use Rattle.pg_graph.specs.Records.{Properties as PropertiesMap, with_label};
+ghost use Rattle.pg_index.specs.Properties.{all_find, has_pair, is_found_by, pairs_of};
 ghost use Rattle.pg_store.specs.Covers.{Key, belongs, has_in, with_label as label_key};
 ghost use Rattle.pg_store.specs.Edits.{CanChange, CanGiveBack, CanGoBack, IsChangeOf, changed_node, changed_properties, node_before, properties_before};
 ghost use Rattle.pg_store.specs.Noted.{Gains, is_in, is_noted};
@@ -12,6 +13,7 @@ use crate::edits::{NodeBefore, NodeChange, PropertiesBefore, PropertyChange, exc
 use crate::notes::{note_label_values_left, note_labels_left, note_values_left};
 use crate::sets::Sets;
 use pg_graph::{Labels, NodeRecord, Properties};
+use pg_index::PropertyIndex;
 use pg_names::NameId;
 use std::alloc::{AllocError, Global};
 use std::mem;
@@ -22,6 +24,20 @@ pub(crate) fn blank_node(alloc: Global) -> NodeRecord {
         labels: Labels::new(alloc),
         properties: Properties::new(alloc),
     }
+}
+
+// Whether a change leaves alone what stands under the key of each index.
+fn keeps_indexed(before: &PropertiesBefore, indexes: &[PropertyIndex]) -> bool
+    ensures { result ≡ true → (label key : ℕ)
+        → has_pair (label, key) (pairs_of indexes.now) ≡ true → (ps : PropertiesMap)
+        → map.get (properties_before before.now ps) key ≡ map.get ps key }
+{
+    for index in indexes {
+        if !before.keeps(index.key) {
+            return false;
+        }
+    }
+    true
 }
 
 impl Sets {
@@ -93,7 +109,10 @@ impl Sets {
         id: u64,
         before: &PropertiesBefore,
     ) -> Result<(), AllocError>
-        requires { CanGiveBack before.now node.now.properties }
+        requires back { CanGiveBack before.now node.now.properties }
+        requires covered { (k : Key) → belongs k
+            (record node.now { properties = properties_before before.now node.now.properties })
+            ≡ true → has_in self.old k id ≡ true }
         ensures all { self.new.all ≡ self.old.all }
         ensures labels { self.new.labels ≡ self.old.labels }
         ensures grown { (label key : ℕ) (v : code.Value) (i : ℕ)
@@ -108,6 +127,9 @@ impl Sets {
             ≡ true → (belongs k node.now || is_noted self.new.stale_ids.items k id) ≡ true) }
     {
         let indexes = self.indexes.as_slice();
+        if keeps_indexed(before, indexes) {
+            return Ok(());
+        }
         note_values_left(self.alloc, &mut self.stale_ids, indexes, node, id, before)?;
         self.insert_values(node, id)
     }

@@ -1,4 +1,4 @@
-use Rattle.std.proofs.Common.{refl, ap, ◌∙◌}
+use Rattle.std.proofs.Common.{refl, sym, ap, ◌∙◌}
 use Rattle.pg_graph.specs.Records.{Properties}
 use Rattle.pg_store.proofs.Edited.{properties_covered}
 use Rattle.pg_store.proofs.SetLemmas.{values_grow}
@@ -43,7 +43,10 @@ returns-in-Err c =
     }
 
 pub move_values-requires : goal.move_values-requires
-move_values-requires c = c.in_ok-before.ensures.can
+move_values-requires c = record {
+  back = c.in_ok-before.ensures.can;
+  covered = λ k h. c.requires.covered k (sym (ap (λ (ps : Properties). belongs k (record c.args.node.now { properties = ps })) c.in_ok-before.ensures.back) ∙ h);
+}
 
 pub returns-in_err-before-clause-gains : goal.returns-in_err-before-clause-gains
 returns-in_err-before-clause-gains c = gains_none c.args.self.now

@@ -5,6 +5,7 @@ use Rattle.pg_graph.specs.Records.{Properties}
 use Rattle.pg_graph.specs.declared.records.NodeRecord.{NodeRecord}
 use Rattle.pg_index.specs.Properties.{has_pair, is_found_by, pairs_of}
 use Rattle.pg_store.proofs.GainLemmas.{gains_notes, gains_then, some_pair}
+use Rattle.pg_store.proofs.Keeping.{still_belongs, still_found}
 use Rattle.pg_store.proofs.NoteLemmas.{or_left, or_on}
 use Rattle.pg_store.proofs.sets.Sets.move_values.Goals as goal
 use Rattle.pg_store.specs.Covers.{Key, every, with_label, with_value, belongs}
@@ -39,3 +40,13 @@ returns-clause-left c =
     values_left old new n _ id (λ l k v pair found.
     or_on (is_found_by l k v n) (is_noted c.note_values_left.new.stale_ids.items (with_value l k v) id) (is_found_by l k v n) (is_noted new.stale_ids.items (with_value l k v) id) (λ h. h) (c.insert_values.ensures.gains.stay (with_value l k v) id)
     (c.in_ok-note_values_left.ensures.ok l k v (ap (λ xs. has_pair (l, k) (pairs_of xs)) c.as_slice-indexes.ensures.value ∙ pair) found))) c.insert_values.ensures.ok
+
+pub returns-then-keeps_indexed-clause-ok : goal.returns-then-keeps_indexed-clause-ok
+returns-then-keeps_indexed-clause-ok c =
+    let n = c.args.node.now in
+    still_found c.args.self.now n _ c.args.id (λ l k pair. c.keeps_indexed.ensures c.if-keeps_indexed.true l k (ap (λ xs. has_pair (l, k) (pairs_of xs)) c.as_slice-indexes.ensures.value ∙ pair) n.properties) c.requires.covered
+
+pub returns-then-keeps_indexed-clause-left : goal.returns-then-keeps_indexed-clause-left
+returns-then-keeps_indexed-clause-left c =
+    let n = c.args.node.now in
+    still_belongs c.args.self.now n _ c.args.id (λ l k pair. c.keeps_indexed.ensures c.if-keeps_indexed.true l k (ap (λ xs. has_pair (l, k) (pairs_of xs)) c.as_slice-indexes.ensures.value ∙ pair) n.properties)

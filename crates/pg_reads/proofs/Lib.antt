@@ -1,0 +1,4 @@
+pub mod Alike
+pub mod Lifts
+pub mod ReadLemmas
+pub mod ReturnedAlike

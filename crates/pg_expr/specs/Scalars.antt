@@ -15,6 +15,7 @@ scalar_view scalar.Null = Some null
 scalar_view (scalar.Bool b) = Some (boolean b)
 scalar_view (scalar.Int i) = Some (integer i)
 scalar_view (scalar.Text s) = Some (text (string_bytes s.now))
+scalar_view (scalar.SharedText s) = Some (text (string_bytes s.now.value))
 scalar_view (scalar.ShortText s) = Some (text s.now.bytes)
 scalar_view (scalar.Lent v) = Some (view v.now)
 

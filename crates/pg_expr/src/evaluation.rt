@@ -238,6 +238,7 @@ fn owned<T: Tables>(
         Scalar::Bool(b) => Ok(Value::Bool(b)),
         Scalar::Int(i) => Ok(Value::Int(i)),
         Scalar::Text(text) => text_copied(context.alloc, text.as_str()),
+        Scalar::SharedText(text) => Ok(Value::Text(text.clone()?)),
         Scalar::ShortText(text) => Ok(Value::ShortText(*text)),
         Scalar::Lent(value) => copied(context.alloc, value),
     }

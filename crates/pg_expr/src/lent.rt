@@ -16,10 +16,9 @@ use crate::reads::{list_column_item, property_in_column};
 use crate::row_context::RowContext;
 use pg_graph::Tables;
 use pg_meaning::Fault;
-use pg_rows::push_item;
 use pg_store::GraphView;
 use pg_syntax_tree::Name;
-use pg_value_core::Value;
+use pg_value_core::{Value, push_item};
 use std::alloc::{AllocError, Global};
 
 /// What an expression reads at a row, if it reads a column, or a property of the node or an item of the list in one; without such a

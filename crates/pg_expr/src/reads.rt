@@ -265,9 +265,13 @@ fn index_lent<'a, T: Tables>(
     match (value, place) {
         (Value::Null, _) | (_, Value::Null) => Ok(null()),
         (Value::List(items), Value::Int(at)) => Ok(item_lent(items.as_ref(), *at)),
-        (Value::Map(entries), Value::Text(key)) => Ok(entry(entries, key.as_str())),
-        (Value::Node(id), Value::Text(key)) => node_property(graph, *id, key.as_str()),
-        (Value::Rel(id), Value::Text(key)) => relationship_property(graph, *id, key.as_str()),
+        (Value::Map(entries), Value::Text(key)) => Ok(entry(entries, key.as_ref().as_str())),
+        (Value::Node(id), Value::Text(key)) => node_property(graph, *id, key.as_ref().as_str()),
+        (Value::Rel(id), Value::Text(key)) => relationship_property(
+            graph,
+            *id,
+            key.as_ref().as_str(),
+        ),
         (Value::Map(entries), Value::ShortText(key)) => Ok(entry(entries, key.as_str())),
         (Value::Node(id), Value::ShortText(key)) => node_property(graph, *id, key.as_str()),
         (Value::Rel(id), Value::ShortText(key)) => relationship_property(graph, *id, key.as_str()),

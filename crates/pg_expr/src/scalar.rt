@@ -23,6 +23,7 @@ use pg_store::GraphView;
 use pg_syntax_tree::{Literal, Name};
 use pg_value_core::{NodeId, RelId, Value};
 use std::alloc::Global;
+use std::rc::Rc;
 
 /// A value that fits into registers, a text or any other value where it stands, or nothing.
 #[derive(Clone, Copy)]
@@ -31,7 +32,10 @@ pub(crate) enum Scalar<'a> {
     Null,
     Bool(bool),
     Int(i64),
+    /// A literal's text.
     Text(&'a String),
+    /// A text that a value shares.
+    SharedText(&'a Rc<String>),
     ShortText(&'a ArrayString<16>),
     Lent(&'a Value),
 }
@@ -44,7 +48,7 @@ pub(crate) fn scalar_of<'a>(value: &'a Value) -> Scalar<'a>
         Value::Null => Scalar::Null,
         Value::Bool(b) => Scalar::Bool(*b),
         Value::Int(i) => Scalar::Int(*i),
-        Value::Text(text) => Scalar::Text(text),
+        Value::Text(text) => Scalar::SharedText(text),
         Value::ShortText(text) => Scalar::ShortText(text),
         _ => Scalar::Lent(value),
     }

@@ -149,6 +149,7 @@ pub(crate) fn compared<'a>(operator: Operator, v: Scalar<'_>, w: Scalar<'_>) -> 
     match v {
         Scalar::Int(x) => integer_compared(operator, x, w),
         Scalar::Text(s) => text_compared(operator, s.as_str(), w),
+        Scalar::SharedText(s) => text_compared(operator, s.as_ref().as_str(), w),
         Scalar::ShortText(s) => text_compared(operator, s.as_str(), w),
         _ => Scalar::Untold,
     }
@@ -188,6 +189,7 @@ pub(crate) fn text_compared<'a>(operator: Operator, s: &str, w: Scalar<'_>) -> S
 {
     match w {
         Scalar::Text(t) => judged(texts_compared(operator, s, t.as_str())),
+        Scalar::SharedText(t) => judged(texts_compared(operator, s, t.as_ref().as_str())),
         Scalar::ShortText(t) => judged(texts_compared(operator, s, t.as_str())),
         _ => Scalar::Untold,
     }
@@ -257,6 +259,7 @@ pub(crate) fn null_tested<'a>(is_negated: bool, v: Scalar<'_>) -> Scalar<'a>
         Scalar::Bool(_) => null_test(is_negated, false),
         Scalar::Int(_) => null_test(is_negated, false),
         Scalar::Text(_) => null_test(is_negated, false),
+        Scalar::SharedText(_) => null_test(is_negated, false),
         Scalar::ShortText(_) => null_test(is_negated, false),
         Scalar::Lent(_) => Scalar::Untold,
     }
@@ -292,6 +295,7 @@ pub(crate) fn sized<'a, T: Tables>(graph: &GraphView<'_, T>, v: Scalar<'_>) -> S
     match v {
         Scalar::Null => Scalar::Null,
         Scalar::Text(text) => counted(characters(text.as_bytes())),
+        Scalar::SharedText(text) => counted(characters(text.as_ref().as_bytes())),
         Scalar::ShortText(text) => counted(characters(text.as_bytes())),
         Scalar::Lent(value) => lent_sized(graph, value),
         _ => Scalar::Untold,

@@ -136,7 +136,7 @@ pub(crate) fn known_truth<'a, T: Tables>(
         Some(Value::Text(text)) => {
             is_chosen(text_compared(
                 known.operator,
-                text.as_str(),
+                text.as_ref().as_str(),
                 side_told(known.right, row, graph),
             ))
         }

@@ -19,7 +19,7 @@ pub fn size(v: &Value) -> Result<Value, Fault>
 {
     match v {
         Value::List(items) => Ok(count_items(items.as_ref())),
-        Value::Text(text) => Ok(count(characters(text.as_bytes()))),
+        Value::Text(text) => Ok(count(characters(text.as_ref().as_bytes()))),
         Value::ShortText(text) => Ok(count(characters(text.as_bytes()))),
         _ => Err(Fault::TypeFault),
     }
@@ -83,9 +83,9 @@ pub fn to_text(alloc: Global, v: Value) -> Result<Value, Fault>
     ensures err { IfErr result (λ e. e ≢ OutOfMemory → string_of (view v) ≡ Err e) }
 {
     match v.into_parts() {
-        Parts::Int(i) => as_text(digits(alloc, i)),
-        Parts::Bool(true) => as_text(String::from_str(alloc, "true")),
-        Parts::Bool(false) => as_text(String::from_str(alloc, "false")),
+        Parts::Int(i) => as_text(alloc, digits(alloc, i)),
+        Parts::Bool(true) => as_text(alloc, String::from_str(alloc, "true")),
+        Parts::Bool(false) => as_text(alloc, String::from_str(alloc, "false")),
         Parts::Text(text) => Ok(Value::Text(text)),
         Parts::ShortText(text) => Ok(Value::ShortText(text)),
         _ => Err(Fault::TypeFault),
@@ -93,12 +93,12 @@ pub fn to_text(alloc: Global, v: Value) -> Result<Value, Fault>
 }
 
 // A text that was made, as a value.
-fn as_text(made: Result<String, AllocError>) -> Result<Value, Fault>
+fn as_text(alloc: Global, made: Result<String, AllocError>) -> Result<Value, Fault>
     ensures ok { (answer : Answer) → IfOk made (λ s. answer ≡ Ok (text (string_bytes s)))
         → IfOk result (λ u. answer ≡ Ok (view u)) }
     ensures err { IfErr result (λ e. e ≡ OutOfMemory) }
 {
-    Ok(Value::Text(made?))
+    Ok(Value::of_string(alloc, made?)?)
 }
 
 #[tactic(auto, using(crate::proofs::Spelling::digits_spelled))]
@@ -131,7 +131,7 @@ pub fn to_integer(v: &Value) -> Result<Value, Fault>
 {
     match v {
         Value::Int(i) => Ok(Value::Int(*i)),
-        Value::Text(text) => Ok(integer_in(text.as_str())),
+        Value::Text(text) => Ok(integer_in(text.as_ref().as_str())),
         Value::ShortText(text) => Ok(integer_in(text.as_str())),
         _ => Err(Fault::TypeFault),
     }

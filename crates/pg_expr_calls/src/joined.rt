@@ -10,7 +10,7 @@ ghost use Rattle.pg_value_core.specs.View.{view, values_view};
 
 use crate::limits::made;
 use pg_meaning::Fault;
-use pg_value_core::{Parts, Value, owned_items};
+use pg_value_core::{Parts, Value, owned_items, owned_text};
 use std::alloc::Global;
 use std::rc::Rc;
 
@@ -22,8 +22,8 @@ pub fn plus(alloc: Global, v: Value, w: Value) -> Result<Value, Fault>
     match v.into_parts() {
         Parts::Null => Ok(Value::Null),
         Parts::Int(x) => integer_plus(x, w),
-        Parts::Text(s) => text_plus(s, w),
-        Parts::ShortText(s) => text_plus(String::from_str(alloc, s.as_str())?, w),
+        Parts::Text(s) => shared_plus(alloc, s, w),
+        Parts::ShortText(s) => text_plus(alloc, String::from_str(alloc, s.as_str())?, w),
         Parts::List(xs) => list_plus(xs, w),
         v => other_plus(v.into_value(), w),
     }
@@ -51,21 +51,29 @@ fn integer_plus(x: i64, w: Value) -> Result<Value, Fault>
     }
 }
 
-fn text_plus(mut s: String, w: Value) -> Result<Value, Fault>
+fn shared_plus(alloc: Global, s: Rc<String>, w: Value) -> Result<Value, Fault>
+    ensures ok { IfOk result (λ u. plus (text (string_bytes s.value)) (view w) ≡ Ok (view u)) }
+    ensures err { IfErr result (λ e. e ≢ OutOfMemory
+        → plus (text (string_bytes s.value)) (view w) ≡ Err e) }
+{
+    text_plus(alloc, owned_text(alloc, s)?, w)
+}
+
+fn text_plus(alloc: Global, mut s: String, w: Value) -> Result<Value, Fault>
     ensures ok { IfOk result (λ u. plus (text (string_bytes s)) (view w) ≡ Ok (view u)) }
     ensures err { IfErr result (λ e. e ≢ OutOfMemory
         → plus (text (string_bytes s)) (view w) ≡ Err e) }
 {
     match w.into_parts() {
         Parts::Text(t) => {
-            s.push_str(t.as_str())?;
-            made(Value::Text(s))
+            s.push_str(t.as_ref().as_str())?;
+            made(Value::of_string(alloc, s)?)
         }
         Parts::ShortText(t) => {
             s.push_str(t.as_str())?;
-            made(Value::Text(s))
+            made(Value::of_string(alloc, s)?)
         }
-        w => other_plus(Value::Text(s), w.into_value()),
+        w => other_plus(Value::of_string(alloc, s)?, w.into_value()),
     }
 }
 

@@ -16,7 +16,7 @@ use crate::number::whole_number;
 use crate::unread::Unread;
 use crate::values::put_entry;
 use json::{Reader, Token};
-use pg_value_core::Value;
+use pg_value_core::{Value, push_item};
 use std::alloc::Global;
 use std::collections::BTreeMap;
 
@@ -180,23 +180,19 @@ fn add_item(
     }
     match token {
         Token::Number(text) => match whole_number(text) {
-            Some(number) => push_value(items, Value::Int(number)),
+            Some(number) => put_item(items, Value::Int(number)),
             None => Err(Unread::Unclear),
         },
-        Token::String(text) => push_value(items, Value::text(alloc, text)?),
-        token => push_value(items, other_value(alloc, reader, token, room)?),
+        Token::String(text) => put_item(items, Value::text(alloc, text)?),
+        token => put_item(items, other_value(alloc, reader, token, room)?),
     }
 }
 
-/// Puts a value behind the items. Mostly there is room, and then it is written where it stays.
+/// Puts a value behind the items.
 #[inline(always)]
-fn push_value(items: &mut Vec<Value>, value: Value) -> Result<(), Unread>
+fn put_item(items: &mut Vec<Value>, value: Value) -> Result<(), Unread>
     ensures { OnOk result (items.new.items ≡ items.old.items ++ value ∷ []) }
 {
-    if items.len() < items.capacity() {
-        items.push_reserved(value);
-        return Ok(());
-    }
-    items.push(value)?;
+    push_item(items, value)?;
     Ok(())
 }

@@ -68,7 +68,7 @@ pub(crate) fn mark_of_one(value: &Value) -> u64 {
     match value {
         Value::Bool(b) => u64::from(*b),
         Value::Int(i) => i.unsigned_abs(),
-        Value::Text(text) => mark_of_text(text.as_bytes()),
+        Value::Text(text) => mark_of_text(text.as_ref().as_bytes()),
         Value::ShortText(text) => mark_of_text(text.as_bytes()),
         Value::Node(id) => id.0,
         Value::Rel(id) => id.0,

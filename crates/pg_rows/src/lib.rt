@@ -16,7 +16,7 @@ pub use columns::Columns;
 pub use firsts::distinct;
 pub use least_keys::least;
 pub use left::RowsLeft;
-pub use moves::{copy_of, copy_row, push_item};
+pub use moves::{copy_of, copy_row};
 pub use named::BindingTable;
 pub use sort_by::SortBy;
 pub use sorts::sort;

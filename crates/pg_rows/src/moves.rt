@@ -1,25 +1,11 @@
-//! Items put behind others, and values moved from one list to another.
+//! Values moved from one list to another.
 ghost use Rattle.std.specs.Prelude.{◌≡◌, ◌+◌, ◌≤◌, ◌++◌, ◌∷◌, [], length, map, take, drop, replicate, IfOk, OnErr, OnOk};
 ghost use Rattle.pg_value_core.specs.View.{view};
 ghost use Rattle.pg_value_core.specs.declared.value.Value.TheVariants.{Null};
 
-use pg_value_core::Value;
+use pg_value_core::{Value, push_item};
 use std::alloc::{AllocError, Global};
 use std::mem;
-
-/// Puts an item behind the others. Mostly there is room, and then it is written where it stays.
-#[inline(always)]
-pub fn push_item<T: Drop>(items: &mut Vec<T>, item: T) -> Result<(), AllocError>
-    ensures ok { OnOk result (items.new.items ≡ items.old.items ++ item ∷ []) }
-    ensures err { OnErr result (items.new.items ≡ items.old.items) }
-{
-    if items.len() < items.capacity() {
-        items.push_reserved(item);
-        return Ok(());
-    }
-    items.push(item)?;
-    Ok(())
-}
 
 /// Moves the values behind `start` to the end of `moved`, and leaves nulls.
 pub(crate) fn move_row(

@@ -1,31 +1,33 @@
 -- The rows that RETURN looks at stand for those that the clauses leave.
-use Rattle.std.proofs.Common.{◌≡◌, Bool, Option, Vec, Global, List, [], ◌∷◌, ◌++◌, map, Result, Ok, Err, IsErrAnd, None, false, refl, sym, ap, subst, ◌∙◌}
+use Rattle.std.proofs.Common.{◌≡◌, Bool, Option, option_map, Vec, Global, List, [], ◌∷◌, ◌++◌, map, Result, Ok, Err, IsErrAnd, None, false, refl, sym, ap, subst, ◌∙◌}
 use Rattle.std.proofs.lemmas.List.{length-map, map-append}
 use Rattle.std.specs.Prelude.{ℕ, ◌≢◌, fold, IfErr, IfOk}
 use Rattle.pg_match.specs.Clauses.{bare}
+use Rattle.pg_match.specs.Unread.{MatchedAlike}
 use Rattle.pg_meaning.specs.Answer.{◌>>=◌}
 use Rattle.pg_meaning.specs.AnswerLaws.{same_ok}
 use Rattle.pg_meaning.specs.Graph.{Graph}
 use Rattle.pg_meaning.specs.Meters.{Quota, Setting, State}
 use Rattle.pg_meaning.specs.Names.{Names}
-use Rattle.pg_meaning.specs.Plans.{Anchor, IsPlanFrom, Plan}
+use Rattle.pg_meaning.specs.Plans.{Anchor, ArePlanned, IsPlanFrom, Plan}
 use Rattle.pg_meaning.specs.Queries.{clause_step, clauses_run}
 use Rattle.pg_meaning.specs.Reading.{match_clause}
 use Rattle.pg_meaning.specs.Rows.{Row}
 use Rattle.pg_meaning.specs.Scopes.{return_columns, scope_after}
 use Rattle.pg_match_stages.specs.declared.anchor.Anchor.{Anchor as AnchorCode}
-use Rattle.pg_meaning.specs.Tree.{Clause, match_paths, PathPattern, Projection}
+use Rattle.pg_meaning.specs.Tree.{Clause, Expression, match_paths, PathPattern, Projection}
 use Rattle.pg_meaning.specs.Value.{Entries}
 use Rattle.pg_meaning.specs.declared.fault.Fault.{Fault}
 use Rattle.pg_project.proofs.InTurn.{bound_twice}
 use Rattle.pg_project.specs.Returned.{OnlyCounts, return_clause}
-use Rattle.pg_rows.specs.States.{Named, seen, state_of}
+use Rattle.pg_reads.proofs.ReturnedAlike.{columns_stay, returned_alike}
+use Rattle.pg_rows.specs.States.{Named, named_rows, seen, state_of}
 use Rattle.pg_rows.specs.declared.named.BindingTable.{BindingTable}
 use Rattle.pg_value_core.specs.Gives.{Gives}
 use Rattle.pg_meaning.specs.declared.fault.Fault.TheVariants.{OutOfMemory}
 use Rattle.pg_run.specs.Returning.{Leaves}
 use Rattle.pg_run.specs.Runs.{anchors_view, plan_view}
-use Rattle.pg_syntax_tree.specs.View.{clause_view, path_view}
+use Rattle.pg_syntax_tree.specs.View.{clause_view, expression_view, path_view}
 use Rattle.pg_syntax_tree.specs.declared.clauses.Clause.{Clause as Code}
 use Rattle.pg_syntax_tree.specs.declared.clauses.Clause.TheVariants as code
 use Rattle.pg_syntax_tree.specs.declared.expression.Expression.{Expression as ExpressionCode}
@@ -74,6 +76,12 @@ planned_earlier scope [] c (a ∷ plan) anchors h = nothing_left (scope_after sc
 planned_earlier scope (b ∷ cs) c [] anchors h = not_planned (scope_after scope b) cs c h.1
 planned_earlier scope (b ∷ cs) c (a ∷ plan) anchors h = (h.0, planned_earlier (scope_after scope b) cs c plan anchors h.1)
 
+planned_last : (scope : Names) (cs : List Clause) (c : Clause) (plan : Plan) (anchors : List Anchor) → IsPlanFrom scope (cs ++ c ∷ []) (plan ++ anchors ∷ []) → ArePlanned (fold scope_after scope cs) c anchors
+planned_last scope [] c [] anchors h = h.0
+planned_last scope [] c (a ∷ plan) anchors h = nothing_left (scope_after scope c) plan anchors h.1
+planned_last scope (b ∷ cs) c [] anchors h = not_planned (scope_after scope b) cs c h.1
+planned_last scope (b ∷ cs) c (a ∷ plan) anchors h = planned_last (scope_after scope b) cs c plan anchors h.1
+
 module _ (parameters : Entries) (quota : Quota) where
   abbrev run : Names → Plan → List Clause → State → Result State Fault
   run = clauses_run parameters quota
@@ -96,6 +104,11 @@ pub last_match : (all before : List Code) (last : Code) (b : Bool) (ps : Vec Pat
     → map clause_view all ≡ map clause_view before ++ match_paths false (map path_view ps.items) None ∷ []
 last_match all before last b ps w split is plain free =
     ap (map clause_view) (split ∙ ap (λ x. before ++ x ∷ []) (is ∙ (λ i. code.Match (plain i) ps (free i)))) ∙ map-append clause_view before (code.Match false ps None ∷ [])
+
+pub last_matched : (all before : List Code) (last : Code) (b : Bool) (ps : Vec PathCode Global) (w : Option ExpressionCode) → all ≡ before ++ last ∷ [] → last ≡ code.Match b ps w
+    → map clause_view all ≡ map clause_view before ++ match_paths b (map path_view ps.items) (option_map expression_view w) ∷ []
+last_matched all before last b ps w split is =
+    ap (map clause_view) (split ∙ ap (λ x. before ++ x ∷ []) is) ∙ map-append clause_view before (code.Match b ps w ∷ [])
 
 pub last_anchors : (plan earlier : List (Vec AnchorCode Global)) (anchors : Vec AnchorCode Global) → plan ≡ earlier ++ anchors ∷ [] → plan_view plan ≡ plan_view earlier ++ anchors_view anchors.items ∷ []
 last_anchors plan earlier anchors split = ap plan_view split ∙ map-append (λ (anchors : Vec AnchorCode Global). anchors_view anchors.items) earlier (anchors ∷ [])
@@ -120,15 +133,36 @@ module _ (p : Projection) (names : Names) (run : Result State Fault) (graph : Gr
     counted_err (Ok t) given = tt
     counted_err (Err e) given = λ other. same ∙ as_bare matched e (given.err other)
 
--- ---- a MATCH as the last clause
+-- the rows of a MATCH that have what RETURN reads
+module _ (p : Projection) (names : Names) (run matched : Result State Fault) (same : run ≡ matched) (graph : Graph) (steps : ℕ) where
+  rows_read : p.star ≡ None → (t : Named) → MatchedAlike p matched graph t steps → Leaves run p names graph t steps
+  rows_read none t h = record {
+    last = record { graph = graph; rows = h.rows; steps = steps };
+    ran = same ∙ h.ran;
+    columns = columns_stay p t.names names none;
+    clause = λ s scope. sym (returned_alike s t.names graph p none h.rows (named_rows t) h.alike steps);
+  }
 
-module _ (cs : List Clause) (paths : List PathPattern) (plan : Plan) (anchors : List Anchor) (clauses : List Clause) (whole : Plan)
-    (ends : clauses ≡ cs ++ match_paths false paths None ∷ []) (anchored : whole ≡ plan ++ anchors ∷ []) (planned : IsPlanFrom [] clauses whole) where
-  planned_in_two : IsPlanFrom [] (cs ++ match_paths false paths None ∷ []) (plan ++ anchors ∷ [])
+  pub read_ok : p.star ≡ None → (r : Result BindingTable Fault) → IfOk r (λ t. MatchedAlike p matched graph (seen t) steps) → IfOk r (λ t. Leaves run p names graph (seen t) steps)
+  read_ok none (Ok t) h = rows_read none (seen t) h
+  read_ok none (Err e) h = tt
+
+  pub read_err : (r : Result BindingTable Fault) → IfErr r (λ e. e ≢ OutOfMemory → matched ≡ Err e) → IfErr r (λ e. e ≢ OutOfMemory → run ≡ Err e)
+  read_err (Ok t) h = tt
+  read_err (Err e) h = λ other. same ∙ h other
+
+-- ---- the last clause apart
+
+module _ (cs : List Clause) (last : Clause) (plan : Plan) (anchors : List Anchor) (clauses : List Clause) (whole : Plan)
+    (ends : clauses ≡ cs ++ last ∷ []) (anchored : whole ≡ plan ++ anchors ∷ []) (planned : IsPlanFrom [] clauses whole) where
+  planned_in_two : IsPlanFrom [] (cs ++ last ∷ []) (plan ++ anchors ∷ [])
   planned_in_two = subst (λ some. IsPlanFrom [] some (plan ++ anchors ∷ [])) ends (subst (λ p. IsPlanFrom [] clauses p) anchored planned)
 
   pub planned_before : IsPlanFrom [] cs plan
-  planned_before = planned_earlier [] cs (match_paths false paths None) plan anchors planned_in_two
+  planned_before = planned_earlier [] cs last plan anchors planned_in_two
+
+  pub planned_there : ArePlanned (fold scope_after [] cs) last anchors
+  planned_there = planned_last [] cs last plan anchors planned_in_two
 
   module _ (parameters : Entries) (quota : Quota) (begun : State) where
     abbrev all_run : Result State Fault
@@ -138,13 +172,13 @@ module _ (cs : List Clause) (paths : List PathPattern) (plan : Plan) (anchors : 
     earlier_run = clauses_run parameters quota [] plan cs begun
 
     abbrev step : State → Result State Fault
-    step = clause_step (setting parameters quota (fold scope_after [] cs) anchors) (match_paths false paths None)
+    step = clause_step (setting parameters quota (fold scope_after [] cs) anchors) last
 
     in_two : all_run ≡ (earlier_run >>= step)
     in_two =
         ap (λ p. clauses_run parameters quota [] p clauses begun) anchored
         ∙ ap (λ some. clauses_run parameters quota [] (plan ++ anchors ∷ []) some begun) ends
-        ∙ run_last parameters quota [] cs (match_paths false paths None) plan anchors begun planned_in_two
+        ∙ run_last parameters quota [] cs last plan anchors begun planned_in_two
 
     pub match_last : (left : State) → earlier_run ≡ Ok left → all_run ≡ step left
     match_last left ran = in_two ∙ ap (λ r. r >>= step) ran
@@ -159,3 +193,15 @@ pub matched_on : (r : Result BindingTable Fault) (s : Setting) (lent paths : Lis
 matched_on r s lent paths seen_graph graph t before after on_paths on_graph given =
     subst (λ (g : Graph). Gives r (match_clause s false (map path_view paths) None (state_of g t before) >>= λ last. Ok (bare last)) (λ made. state_of g (seen made) after)) on_graph
     (subst (λ ps. Gives r (match_clause s false (map path_view ps) None (state_of seen_graph t before) >>= λ last. Ok (bare last)) (λ made. state_of seen_graph (seen made) after)) on_paths given)
+
+module _ (p : Projection) (r : Result BindingTable Fault) (s : Setting) (b : Bool) (w : Option Expression) (lent paths : List PathCode) (seen_graph graph : Graph) (t : Named) (before after : ℕ) (on_paths : lent ≡ paths) (on_graph : seen_graph ≡ graph) where
+  pub read_on : IfOk r (λ made. MatchedAlike p (match_clause s b (map path_view lent) w (state_of seen_graph t before)) seen_graph (seen made) after)
+      → IfOk r (λ made. MatchedAlike p (match_clause s b (map path_view paths) w (state_of graph t before)) graph (seen made) after)
+  read_on given =
+      subst (λ (g : Graph). IfOk r (λ made. MatchedAlike p (match_clause s b (map path_view paths) w (state_of g t before)) g (seen made) after)) on_graph
+      (subst (λ ps. IfOk r (λ made. MatchedAlike p (match_clause s b (map path_view ps) w (state_of seen_graph t before)) seen_graph (seen made) after)) on_paths given)
+
+  pub not_read_on : IfErr r (λ e. e ≢ OutOfMemory → match_clause s b (map path_view lent) w (state_of seen_graph t before) ≡ Err e) → IfErr r (λ e. e ≢ OutOfMemory → match_clause s b (map path_view paths) w (state_of graph t before) ≡ Err e)
+  not_read_on given =
+      subst (λ (g : Graph). IfErr r (λ e. e ≢ OutOfMemory → match_clause s b (map path_view paths) w (state_of g t before) ≡ Err e)) on_graph
+      (subst (λ ps. IfErr r (λ e. e ≢ OutOfMemory → match_clause s b (map path_view ps) w (state_of seen_graph t before) ≡ Err e)) on_paths given)

@@ -12,7 +12,7 @@ use Rattle.pg_meaning.specs.Value.{Values, Entries}
 use Rattle.pg_meaning.specs.Value as seen
 use Rattle.pg_meaning.specs.declared.fault.Fault.{Fault}
 use Rattle.pg_meaning.specs.declared.fault.Fault.TheVariants.{OutOfMemory}
-use Rattle.pg_run.proofs.ValueLemmas.{null_seen, bool_seen, int_seen, text_seen, list_seen, map_seen, null_shown, bool_shown, int_shown, text_shown}
+use Rattle.pg_run.proofs.ValueLemmas.{null_seen, bool_seen, int_seen, list_seen, map_seen, null_shown, bool_shown, int_shown}
 use Rattle.pg_run.specs.Printed.{printed_items, printed_members}
 use Rattle.pg_run.specs.Spelt.{Spelt, DataSpelt, ValueSpelt, ListSpelt, MapSpelt}
 use Rattle.pg_value_core.specs.View.{entries_view, values_view, view}
@@ -43,9 +43,6 @@ module _ (graph : Graph) (v : Value) (old new : ℕ) where
 
     pub int_spelt : (i j : ℤ) → v ≡ value.Int i → j ≡ i → new ≡ old - least (data_of (out.Int j)) → (new ≢ 0 → given ≡ out.Int j) → ValueSpelt graph (view v) (Ok given) old new
     int_spelt i j e same left is = shown_within _ _ old new (out.Int j) given (ap (test_output graph) (int_seen v i e)) (ap (λ k. data_of (out.Int k)) same ∙ int_shown graph v i e) left is
-
-    pub text_spelt : (s : String Global) → v ≡ value.Text s → new ≡ old - least (data_of (out.Text s)) → (new ≢ 0 → given ≡ out.Text s) → ValueSpelt graph (view v) (Ok given) old new
-    text_spelt s e left is = shown_within _ _ old new (out.Text s) given (ap (test_output graph) (text_seen v s e)) (text_shown graph v s e) left is
 
   -- by what a list and a map hold
   pub items_spelt : (list : Rc (Vec Value Global) Global) (items : Vec Value Global) (result : Result Out Fault) → v ≡ value.List list → items ≡ list.value → DataSpelt (test_items graph (values_view items.items)) (json.array (printed_items graph (values_view items.items))) result old new → ValueSpelt graph (view v) result old new

@@ -34,7 +34,7 @@ view_bool b = search (rules, value.the_lemmas)
 view_int : (i : ℤ) → view (value.Int i) ≡ seen.integer i
 view_int i = search (rules, value.the_lemmas)
 
-view_text : (s : String Global) → view (value.Text s) ≡ seen.text (string_bytes s)
+view_text : (s : Rc (String Global) Global) → view (value.Text s) ≡ seen.text (string_bytes s.value)
 view_text s = search (rules, value.the_lemmas)
 
 view_short : (s : ArrayString) → view (value.ShortText s) ≡ seen.text s.bytes
@@ -68,7 +68,7 @@ module _ (v : Value) where
   pub int_seen : (i : ℤ) → v ≡ value.Int i → view v ≡ seen.integer i
   int_seen i e = ap view e ∙ view_int i
 
-  pub text_seen : (s : String Global) → v ≡ value.Text s → view v ≡ seen.text (string_bytes s)
+  pub text_seen : (s : Rc (String Global) Global) → v ≡ value.Text s → view v ≡ seen.text (string_bytes s.value)
   text_seen s e = ap view e ∙ view_text s
 
   pub short_seen : (s : ArrayString) → v ≡ value.ShortText s → view v ≡ seen.text s.bytes
@@ -101,9 +101,6 @@ module _ (graph : Graph) (v : Value) where
 
   pub int_put : (i j : ℤ) → v ≡ value.Int i → j ≡ i → data_of (out.Int j) ≡ printed graph (view v)
   int_put i j e same = ap (λ k. data_of (out.Int k)) same ∙ int_shown i e
-
-  pub text_shown : (s : String Global) → v ≡ value.Text s → data_of (out.Text s) ≡ printed graph (view v)
-  text_shown s e = data_text s ∙ ap (printed graph) (sym (text_seen v s e))
 
   pub text_put : (bytes : List ℕ) → view v ≡ seen.text bytes → json.string bytes ≡ printed graph (view v)
   text_put bytes e = ap (printed graph) (sym e)

@@ -111,7 +111,7 @@ impl ReplyWriter {
             Value::Null => self.put_scalar(Out::Null),
             Value::Bool(b) => self.put_scalar(Out::Bool(*b)),
             Value::Int(i) => self.put_integer(i),
-            Value::Text(text) => self.put_text(text.as_str()),
+            Value::Text(text) => self.put_text(text.as_ref().as_str()),
             Value::ShortText(text) => self.put_text(text.as_str()),
             _ => match spell(alloc, graph, value, &mut self.room) {
                 Ok(out) => self.put(out),

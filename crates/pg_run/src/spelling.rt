@@ -30,7 +30,7 @@ pub(crate) fn spell<T: Tables>(
         Value::Null => Ok(within(Out::Null, room)),
         Value::Bool(b) => Ok(within(Out::Bool(*b), room)),
         Value::Int(i) => Ok(within(Out::Int(*i), room)),
-        Value::Text(text) => spell_text(alloc, text.as_str(), room),
+        Value::Text(text) => spell_text(alloc, text.as_ref().as_str(), room),
         Value::ShortText(text) => spell_text(alloc, text.as_str(), room),
         Value::List(items) => spell_list(alloc, graph, items.as_ref(), room),
         Value::Map(entries) => spell_map(alloc, graph, entries.as_ref(), room),

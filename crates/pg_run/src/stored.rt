@@ -4,6 +4,7 @@ ghost use Rattle.pg_graph.specs.InOrder.{listed_entries};
 ghost use Rattle.pg_json.specs.Replies.{data_of, outs, named_outs};
 ghost use Rattle.pg_run.specs.Printed.{stored_data, stored_items, stored_members};
 ghost use Rattle.pg_value_core.specs.View.{view, values_view, entries_view};
+ghost use Rattle.serde_json.specs.Data.{string};
 
 use pg_value_core::{Out, Value};
 use std::alloc::{AllocError, Global};
@@ -16,12 +17,18 @@ fn spell_stored(alloc: Global, value: &Value) -> Result<Out, AllocError>
     match value {
         Value::Bool(b) => Ok(Out::Bool(*b)),
         Value::Int(i) => Ok(Out::Int(*i)),
-        Value::Text(text) => Ok(Out::Text(String::from_str(alloc, text.as_str())?)),
-        Value::ShortText(text) => Ok(Out::Text(String::from_str(alloc, text.as_str())?)),
+        Value::Text(text) => spell_stored_text(alloc, text.as_ref().as_str()),
+        Value::ShortText(text) => spell_stored_text(alloc, text.as_str()),
         Value::List(items) => Ok(Out::List(spell_stored_items(alloc, items.as_ref())?)),
         Value::Map(entries) => Ok(Out::Map(spell_stored_entries(alloc, entries.as_ref())?)),
         Value::Null | Value::Node(_) | Value::Rel(_) | Value::Path(_) => Ok(Out::Null),
     }
+}
+
+fn spell_stored_text(alloc: Global, text: &str) -> Result<Out, AllocError>
+    ensures { IfOk result (λ out. data_of out ≡ string text.now) }
+{
+    Ok(Out::Text(String::from_str(alloc, text)?))
 }
 
 #[cycle(stored)]

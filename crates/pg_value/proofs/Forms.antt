@@ -46,16 +46,16 @@ module _ (b : Value) (some : b ≡ code.Null → ⊥) where
   pub other_int : (a : Value) (i : ℤ) → a ≡ code.Int i → ((i : ℤ) → b ≡ code.Int i → ⊥) → False ≡ eq3 (view a) (view b)
   other_int a i is none = int_apart i (out-Value b) (roll-out-Value b) none ∙ ap (λ v. eq3 v (view b)) (sym (int_seen i is))
 
-  text_apart : (s : List ℕ) (part : Value-F Value) → roll-Value part ≡ b → ((s : String Global) → b ≡ code.Text s → ⊥) → ((s : ArrayString) → b ≡ code.ShortText s → ⊥) → False ≡ eq3 (text s) (view b)
+  text_apart : (s : List ℕ) (part : Value-F Value) → roll-Value part ≡ b → ((s : Rc (String Global) Global) → b ≡ code.Text s → ⊥) → ((s : ArrayString) → b ≡ code.ShortText s → ⊥) → False ≡ eq3 (text s) (view b)
   text_apart s Value-F.Null same none no_short = absurd (some (sym same ∙ rolls-Null))
   text_apart s (Value-F.Text y) same none no_short = absurd (none y (sym same ∙ rolls-Text y))
   text_apart s (Value-F.ShortText y) same none no_short = absurd (no_short y (sym same ∙ rolls-ShortText y))
   text_apart s part same none no_short = ap (eq3 (text s)) (sym (fold-roll-Value Datum view_step part) ∙ ap view same)
 
-  pub other_text : (a : Value) (s : String Global) → a ≡ code.Text s → ((s : String Global) → b ≡ code.Text s → ⊥) → ((s : ArrayString) → b ≡ code.ShortText s → ⊥) → False ≡ eq3 (view a) (view b)
-  other_text a s is none no_short = text_apart (string_bytes s) (out-Value b) (roll-out-Value b) none no_short ∙ ap (λ v. eq3 v (view b)) (sym (text_seen s is))
+  pub other_text : (a : Value) (s : Rc (String Global) Global) → a ≡ code.Text s → ((s : Rc (String Global) Global) → b ≡ code.Text s → ⊥) → ((s : ArrayString) → b ≡ code.ShortText s → ⊥) → False ≡ eq3 (view a) (view b)
+  other_text a s is none no_short = text_apart (string_bytes s.value) (out-Value b) (roll-out-Value b) none no_short ∙ ap (λ v. eq3 v (view b)) (sym (text_seen s is))
 
-  pub other_short : (a : Value) (s : ArrayString) → a ≡ code.ShortText s → ((s : String Global) → b ≡ code.Text s → ⊥) → ((s : ArrayString) → b ≡ code.ShortText s → ⊥) → False ≡ eq3 (view a) (view b)
+  pub other_short : (a : Value) (s : ArrayString) → a ≡ code.ShortText s → ((s : Rc (String Global) Global) → b ≡ code.Text s → ⊥) → ((s : ArrayString) → b ≡ code.ShortText s → ⊥) → False ≡ eq3 (view a) (view b)
   other_short a s is none no_short = text_apart s.bytes (out-Value b) (roll-out-Value b) none no_short ∙ ap (λ v. eq3 v (view b)) (sym (short_seen s is))
 
   list_apart : (vs : Rc (Vec Value Global) Global) (part : Value-F Value) → roll-Value part ≡ b → ((vs : Rc (Vec Value Global) Global) → b ≡ code.List vs → ⊥) → False ≡ eq3 (list (values_view vs.value.items)) (view b)

@@ -15,10 +15,10 @@ pub fn less3(a: &Value, b: &Value) -> Result<Tri, Fault>
 {
     match (a, b) {
         (Value::Int(x), Value::Int(y)) => Ok(truth(x < y)),
-        (Value::Text(x), Value::Text(y)) => Ok(truth(x < y)),
+        (Value::Text(x), Value::Text(y)) => Ok(truth(x.as_ref().as_str() < y.as_ref().as_str())),
         (Value::ShortText(x), Value::ShortText(y)) => Ok(truth(x.as_str() < y.as_str())),
-        (Value::Text(x), Value::ShortText(y)) => Ok(truth(x.as_str() < y.as_str())),
-        (Value::ShortText(x), Value::Text(y)) => Ok(truth(x.as_str() < y.as_str())),
+        (Value::Text(x), Value::ShortText(y)) => Ok(truth(x.as_ref().as_str() < y.as_str())),
+        (Value::ShortText(x), Value::Text(y)) => Ok(truth(x.as_str() < y.as_ref().as_str())),
         (Value::Bool(x), Value::Bool(y)) => Ok(truth(x < y)),
         (Value::List(_), Value::List(_))
         | (Value::Map(_), Value::Map(_))

@@ -13,7 +13,7 @@ pub fn weight(value: &Value) -> u64
     ensures { result ≡ min (weight_of (view value.now)) (2 ^ 64 - 1) }
 {
     match value {
-        Value::Text(text) => 1u64.saturating_add(text.len() as u64),
+        Value::Text(text) => 1u64.saturating_add(text.as_ref().len() as u64),
         Value::ShortText(text) => 1u64.saturating_add(text.len() as u64),
         Value::List(items) => 1u64.saturating_add(weight_items(items.as_ref())),
         Value::Map(entries) => 1u64.saturating_add(weight_entries(entries.as_ref())),

@@ -22,7 +22,7 @@ bool_seen x is = ap view (is ∙ sym (rolls-Bool x)) ∙ fold-roll-Value Datum v
 pub int_seen : {v : Value} (i : ℤ) → v ≡ code.Int i → view v ≡ integer i
 int_seen i is = ap view (is ∙ sym (rolls-Int i)) ∙ fold-roll-Value Datum view_step (Value-F.Int i)
 
-pub text_seen : {v : Value} (s : String Global) → v ≡ code.Text s → view v ≡ text (string_bytes s)
+pub text_seen : {v : Value} (s : Rc (String Global) Global) → v ≡ code.Text s → view v ≡ text (string_bytes s.value)
 text_seen s is = ap view (is ∙ sym (rolls-Text s)) ∙ fold-roll-Value Datum view_step (Value-F.Text s)
 
 pub short_seen : {v : Value} (s : ArrayString) → v ≡ code.ShortText s → view v ≡ text s.bytes

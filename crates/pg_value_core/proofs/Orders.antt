@@ -63,7 +63,7 @@ module _ (b : Value) where
 
   -- no text of either kind
   abbrev is_apart : Value → Type 0
-  is_apart v = ((s : String Global) → v ≡ code.Text s → ⊥) × ((s : ArrayString) → v ≡ code.ShortText s → ⊥)
+  is_apart v = ((s : Rc (String Global) Global) → v ≡ code.Text s → ⊥) × ((s : ArrayString) → v ≡ code.ShortText s → ⊥)
 
   text_apart : (s : List ℕ) (part : Value-F Value) → roll-Value part ≡ b → is_apart b → by_rank (text s) (view b) ≡ value_order (text s) (view b)
   text_apart s (Value-F.Text y) same none = absurd (none.0 y (sym same ∙ rolls-Text y))
@@ -72,10 +72,10 @@ module _ (b : Value) where
       let seen = sym (fold-roll-Value Datum view_step part) ∙ ap view same in
       sym (ap (by_rank (text s)) seen) ∙ ap (value_order (text s)) seen
 
-  pub other_text : (a : Value) (s : String Global) → a ≡ code.Text s → ((s : String Global) → b ≡ code.Text s → ⊥) → ((s : ArrayString) → b ≡ code.ShortText s → ⊥) → by_rank (view a) (view b) ≡ value_order (view a) (view b)
-  other_text a s is none no_short = at_form a (text (string_bytes s)) (form.text_seen s is) (text_apart (string_bytes s) (out-Value b) (roll-out-Value b) (none, no_short))
+  pub other_text : (a : Value) (s : Rc (String Global) Global) → a ≡ code.Text s → ((s : Rc (String Global) Global) → b ≡ code.Text s → ⊥) → ((s : ArrayString) → b ≡ code.ShortText s → ⊥) → by_rank (view a) (view b) ≡ value_order (view a) (view b)
+  other_text a s is none no_short = at_form a (text (string_bytes s.value)) (form.text_seen s is) (text_apart (string_bytes s.value) (out-Value b) (roll-out-Value b) (none, no_short))
 
-  pub other_short : (a : Value) (s : ArrayString) → a ≡ code.ShortText s → ((s : String Global) → b ≡ code.Text s → ⊥) → ((s : ArrayString) → b ≡ code.ShortText s → ⊥) → by_rank (view a) (view b) ≡ value_order (view a) (view b)
+  pub other_short : (a : Value) (s : ArrayString) → a ≡ code.ShortText s → ((s : Rc (String Global) Global) → b ≡ code.Text s → ⊥) → ((s : ArrayString) → b ≡ code.ShortText s → ⊥) → by_rank (view a) (view b) ≡ value_order (view a) (view b)
   other_short a s is none no_short = at_form a (text s.bytes) (form.short_seen s is) (text_apart s.bytes (out-Value b) (roll-out-Value b) (none, no_short))
 
   list_apart : (vs : Rc (Vec Value Global) Global) (part : Value-F Value) → roll-Value part ≡ b → ((vs : Rc (Vec Value Global) Global) → b ≡ code.List vs → ⊥) → by_rank (list (values_view vs.value.items)) (view b) ≡ value_order (list (values_view vs.value.items)) (view b)

@@ -15,7 +15,7 @@ abbrev pub view_step : Value-F Datum → Datum
 view_step Value-F.Null = null
 view_step (Value-F.Bool b) = boolean b
 view_step (Value-F.Int i) = integer i
-view_step (Value-F.Text s) = text (string_bytes s)
+view_step (Value-F.Text s) = text (string_bytes s.value)
 view_step (Value-F.ShortText s) = text s.bytes
 view_step (Value-F.List v) = list (values_of v.value.items)
 view_step (Value-F.Map m) = mapping (mapping_of m.value.entries)

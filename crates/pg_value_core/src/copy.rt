@@ -1,6 +1,6 @@
-//! Copies of values. A list and a map are shared by their copies, and nothing changes them while they are.
+//! Copies of values. A text, a list and a map are shared by their copies, and nothing changes them while they are.
 
-ghost use Rattle.std.specs.Prelude.{◌≡◌, IfOk};
+ghost use Rattle.std.specs.Prelude.{◌≡◌, IfOk, string_bytes};
 ghost use Rattle.pg_value_core.specs.View.{view, values_view, entries_view};
 
 use crate::ids::Path;
@@ -10,7 +10,7 @@ use std::collections::BTreeMap;
 use std::rc::Rc;
 
 impl Value {
-    /// The same value. A text and a path get memory of their own; a list and a map are shared.
+    /// The same value. A path gets memory of its own; a text, a list and a map are shared.
     pub fn copy(&self, alloc: Global) -> Result<Value, AllocError>
         ensures { IfOk result (λ v. view v ≡ view self.now) }
     {
@@ -18,7 +18,7 @@ impl Value {
             Value::Null => Ok(Value::Null),
             Value::Bool(b) => Ok(Value::Bool(*b)),
             Value::Int(i) => Ok(Value::Int(*i)),
-            Value::Text(text) => Value::text(alloc, text.as_str()),
+            Value::Text(text) => Ok(Value::Text(text.clone()?)),
             Value::ShortText(text) => Ok(Value::ShortText(*text)),
             Value::List(items) => Ok(Value::List(items.clone()?)),
             Value::Map(entries) => Ok(Value::Map(entries.clone()?)),
@@ -26,6 +26,16 @@ impl Value {
             Value::Rel(id) => Ok(Value::Rel(*id)),
             Value::Path(path) => Ok(Value::Path(Path(path.0.as_slice().to_vec(alloc)?))),
         }
+    }
+}
+
+/// A text, owned by the caller: its own where nothing else has it, and else a copy.
+pub fn owned_text(alloc: Global, text: Rc<String>) -> Result<String, AllocError>
+    ensures { IfOk result (λ s. string_bytes s ≡ string_bytes text.value) }
+{
+    match Rc::try_unwrap(text) {
+        Ok(content) => Ok(content),
+        Err(shared) => String::from_str(alloc, shared.as_ref().as_str()),
     }
 }
 

@@ -28,7 +28,7 @@ fn feed<H: Hasher>(value: &Value, state: &mut H)
         Value::Null => {}
         Value::Bool(b) => b.hash(state),
         Value::Int(i) => state.write_i64(*i),
-        Value::Text(text) => text.hash(state),
+        Value::Text(text) => text.as_ref().as_str().hash(state),
         Value::ShortText(text) => text.hash(state),
         Value::List(items) => feed_items(items.as_ref(), state),
         Value::Map(entries) => feed_entries(entries.as_ref(), state),

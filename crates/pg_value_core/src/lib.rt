@@ -8,13 +8,15 @@ mod ordering;
 mod out;
 mod parameters;
 mod parts;
+mod pushes;
 mod value;
 
-pub use copy::{owned_entries, owned_items};
+pub use copy::{owned_entries, owned_items, owned_text};
 pub use ids::{NodeId, Path, RelId};
 pub use ordering::{equivalent, order};
 pub use out::Out;
 pub use parameters::Parameters;
 pub use parts::Parts;
 pub use pg_meaning::{Fault, Tri};
+pub use pushes::push_item;
 pub use value::Value;

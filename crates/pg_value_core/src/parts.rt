@@ -14,7 +14,7 @@ pub enum Parts {
     Null,
     Bool(bool),
     Int(i64),
-    Text(String),
+    Text(Rc<String>),
     ShortText(ArrayString<16>),
     List(Rc<Vec<Value>>),
     Map(Rc<BTreeMap<String, Value>>),

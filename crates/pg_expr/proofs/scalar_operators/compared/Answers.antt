@@ -1,4 +1,4 @@
-use Rattle.std.proofs.Common.{◌≡◌, rules, sym, subst, to_z, of_z, [], ◌∷◌}
+use Rattle.std.proofs.Common.{◌≡◌, rules, sym, subst, ap, string_bytes, ◌∙◌, to_z, of_z, [], ◌∷◌}
 use Rattle.std.specs.Int.{w64}
 use Rattle.pg_expr.proofs.ScalarLemmas.{nothing_of_both}
 use Rattle.pg_expr.specs.Operators.{truth_compared}
@@ -19,6 +19,12 @@ returns-in-Text c =
     let told = scalar_view c.text_compared.result in
     subst (λ (u : Scalar). BothTell (scalar_view u) (scalar_view c.args.w) told (λ x y. truth_compared x ((c.args.operator, y) ∷ []))) (sym c.in-Text.is)
     (subst (λ s. ThenTells (scalar_view c.args.w) told (λ y. truth_compared (text s) ((c.args.operator, y) ∷ []))) c.as_str.ensures.value c.text_compared.ensures)
+
+pub returns-in-SharedText : goal.returns-in-SharedText
+returns-in-SharedText c =
+    let told = scalar_view c.text_compared-in-SharedText.result in
+    subst (λ (u : Scalar). BothTell (scalar_view u) (scalar_view c.args.w) told (λ x y. truth_compared x ((c.args.operator, y) ∷ []))) (sym c.in-SharedText.is)
+    (subst (λ s. ThenTells (scalar_view c.args.w) told (λ y. truth_compared (text s) ((c.args.operator, y) ∷ []))) (c.as_str-in-SharedText.ensures.value ∙ ap string_bytes c.as_ref.ensures) c.text_compared-in-SharedText.ensures)
 
 pub returns-in-ShortText : goal.returns-in-ShortText
 returns-in-ShortText c =

@@ -1,4 +1,4 @@
-use Rattle.std.proofs.Common.{sym, subst, [], ◌∷◌}
+use Rattle.std.proofs.Common.{sym, subst, ap, string_bytes, ◌∙◌, [], ◌∷◌}
 use Rattle.pg_expr.proofs.ScalarLemmas.{compared_told, nothing_then}
 use Rattle.pg_expr.specs.Operators.{truth_compared}
 use Rattle.pg_expr.specs.Scalars.{scalar_view, Tells, ThenTells}
@@ -11,6 +11,12 @@ returns-in-Text c =
     subst (λ (u : Scalar). ThenTells (scalar_view u) (scalar_view c.judged.result) (λ y. truth_compared (text c.args.s.now) ((c.args.operator, y) ∷ []))) (sym c.in-Text.is)
     (subst (λ t. Tells (scalar_view c.judged.result) (truth_compared (text c.args.s.now) ((c.args.operator, text t) ∷ []))) c.as_str.ensures.value
     (compared_told c.args.operator (text c.args.s.now) (text c.as_str.result.now) c.texts_compared.result (scalar_view c.judged.result) c.judged.ensures c.texts_compared.ensures))
+
+pub returns-in-SharedText : goal.returns-in-SharedText
+returns-in-SharedText c =
+    subst (λ (u : Scalar). ThenTells (scalar_view u) (scalar_view c.judged-in-SharedText.result) (λ y. truth_compared (text c.args.s.now) ((c.args.operator, y) ∷ []))) (sym c.in-SharedText.is)
+    (subst (λ t. Tells (scalar_view c.judged-in-SharedText.result) (truth_compared (text c.args.s.now) ((c.args.operator, text t) ∷ []))) (c.as_str-in-SharedText.ensures.value ∙ ap string_bytes c.as_ref.ensures)
+    (compared_told c.args.operator (text c.args.s.now) (text c.as_str-in-SharedText.result.now) c.texts_compared-in-SharedText.result (scalar_view c.judged-in-SharedText.result) c.judged-in-SharedText.ensures c.texts_compared-in-SharedText.ensures))
 
 pub returns-in-ShortText : goal.returns-in-ShortText
 returns-in-ShortText c =

@@ -53,7 +53,7 @@ add_item-returns-in-Some-clause-ok t c =
     let seen : view (Int z) ≡ integer z = search (rules, the_lemmas) in
     let begun : BeginsWith room (token_of c.args.token ∷ rest) (view (Int z)) rest =
     rw (c.in-Number.is, seen, same) (number_begins room (omega arith) rest c.in-Number.text.now c.in-Some.number c.in-Some.ensures.read c.in-Some.ensures.fits) in
-    item_put room (token_of c.args.token ∷ rest) rest c.push_value.result (Int z) c.args.items.now.items _ begun c.push_value.ensures
+    item_put room (token_of c.args.token ∷ rest) rest c.put_item.result (Int z) c.args.items.now.items _ begun c.put_item.ensures
 
 pub add_item-returns-in_ok-text-in-String-clause-ok : goal.add_item-returns-in_ok-text-in-String-clause-ok
 add_item-returns-in_ok-text-in-String-clause-ok t c =
@@ -62,7 +62,7 @@ add_item-returns-in_ok-text-in-String-clause-ok t c =
     let v = c.in_ok-text-in-String.field-0 in
     let seen : view v ≡ text c.in-String.text.now = c.in_ok-text-in-String.ensures in
     let begun : BeginsWith room (token_of c.args.token ∷ rest) (view v) rest = rw (c.in-String.is, seen) (text_begins room (omega arith) rest c.in-String.text.now) in
-    item_put room (token_of c.args.token ∷ rest) rest c.push_value-in-String.result v c.args.items.now.items _ begun c.push_value-in-String.ensures
+    item_put room (token_of c.args.token ∷ rest) rest c.put_item-in-String.result v c.args.items.now.items _ begun c.put_item-in-String.ensures
 
 pub read_list-returns-in-Some-EndArray-clause-ok : goal.read_list-returns-in-Some-EndArray-clause-ok
 read_list-returns-in-Some-EndArray-clause-ok t c =

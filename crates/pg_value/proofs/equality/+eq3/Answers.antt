@@ -14,17 +14,12 @@ eq3-returns-in-Bool-Bool t c =
     let h = c.in-Bool-Bool in
     c.truth.ensures ∙ form.both_seen c.args.a.now c.args.b.now _ _ (value.bool_seen h.x h.is-0) (value.bool_seen h.y h.is-1)
 
-pub eq3-returns-in-Text-Text : goal.eq3-returns-in-Text-Text
-eq3-returns-in-Text-Text t c =
-    let h = c.in-Text-Text in
-    c.truth-in-Text-Text.ensures ∙ ap tri_of c.eq.ensures ∙ form.both_seen c.args.a.now c.args.b.now _ _ (value.text_seen h.x h.is-0) (value.text_seen h.y h.is-1)
-
 pub eq3-returns-in-List-List : goal.eq3-returns-in-List-List
 eq3-returns-in-List-List t c =
     let h = c.in-List-List in
     c.eq3_items.ensures
-    ∙ ap (λ v. items_eq3 (values_view v.items) (values_view c.as_ref-in-List-List.result.now.items)) c.as_ref.ensures
-    ∙ ap (λ v. items_eq3 (values_view h.xs.value.items) (values_view v.items)) c.as_ref-in-List-List.ensures
+    ∙ ap (λ v. items_eq3 (values_view v.items) (values_view c.as_ref-in-List-List-2.result.now.items)) c.as_ref-in-List-List.ensures
+    ∙ ap (λ v. items_eq3 (values_view h.xs.value.items) (values_view v.items)) c.as_ref-in-List-List-2.ensures
     ∙ form.both_seen c.args.a.now c.args.b.now _ _ (value.list_seen h.xs h.is-0) (value.list_seen h.ys h.is-1)
 
 pub eq3-returns-in-Map-Map : goal.eq3-returns-in-Map-Map

@@ -1,4 +1,5 @@
-use Rattle.std.proofs.Common.{fold, refl, sym, ap, ◌∙◌}
+use Rattle.std.proofs.Common.{fold, refl, sym, ap, ◌∙◌, string_bytes}
+use Rattle.std.specs.Hash.{str}
 use Rattle.pg_value_core.specs.Hashed.{hashed_items, hashed_entries}
 use Rattle.pg_value_core.specs.View.{values_view, entries_view}
 use Rattle.pg_value_core.proofs.Fed as lemma
@@ -12,7 +13,7 @@ pub feed-returns-in-Bool : goal.feed-returns-in-Bool
 feed-returns-in-Bool g t c = c.hash.ensures ∙ lemma.of_form g.H.Hasher.write c.args.state.now c.write_u64.new.self c.rank.result c.args.value.now _ _ (form.bool_seen c.in-Bool.b c.in-Bool.is) c.rank.ensures c.write_u64.ensures refl
 
 pub feed-returns-in-Text : goal.feed-returns-in-Text
-feed-returns-in-Text g t c = c.hash-in-Text.ensures ∙ lemma.of_form g.H.Hasher.write c.args.state.now c.write_u64.new.self c.rank.result c.args.value.now _ _ (form.text_seen c.in-Text.text c.in-Text.is) c.rank.ensures c.write_u64.ensures refl
+feed-returns-in-Text g t c = c.hash-in-Text.ensures ∙ ap (λ s. fold g.H.Hasher.write c.write_u64.new.self (str s)) (c.as_str.ensures.value ∙ ap string_bytes c.as_ref.ensures) ∙ lemma.of_form g.H.Hasher.write c.args.state.now c.write_u64.new.self c.rank.result c.args.value.now _ _ (form.text_seen c.in-Text.text c.in-Text.is) c.rank.ensures c.write_u64.ensures refl
 
 pub feed-returns-in-ShortText : goal.feed-returns-in-ShortText
 feed-returns-in-ShortText g t c = c.hash-in-ShortText.ensures ∙ lemma.of_form g.H.Hasher.write c.args.state.now c.write_u64.new.self c.rank.result c.args.value.now _ _ (form.short_seen c.in-ShortText.text c.in-ShortText.is) c.rank.ensures c.write_u64.ensures refl

@@ -39,11 +39,6 @@ order_any-returns-in-Path-Path t c =
     let h = c.in-Path-Path in
     c.cmp-in-Path-Path.ensures ∙ lemma.both_seen c.args.a.now c.args.b.now _ _ (form.path_seen h.x h.is-0) (form.path_seen h.y h.is-1)
 
-pub order_any-returns-in-Text-Text : goal.order_any-returns-in-Text-Text
-order_any-returns-in-Text-Text t c =
-    let h = c.in-Text-Text in
-    c.cmp-in-Text-Text.ensures ∙ lemma.both_seen c.args.a.now c.args.b.now _ _ (form.text_seen h.x h.is-0) (form.text_seen h.y h.is-1)
-
 pub order_any-returns-in-ShortText-ShortText : goal.order_any-returns-in-ShortText-ShortText
 order_any-returns-in-ShortText-ShortText t c =
     let h = c.in-ShortText-ShortText in

@@ -1,4 +1,4 @@
-use Rattle.std.proofs.Common.{rules, ◌-◌, arith, ap, sym, ◌∙◌, refl}
+use Rattle.std.proofs.Common.{string_bytes, rules, ◌-◌, arith, ap, sym, ◌∙◌, refl}
 use Rattle.pg_json.specs.Replies.{data_of}
 use Rattle.pg_meaning.specs.Queries.{test_output}
 use Rattle.pg_meaning.specs.Value.{text}
@@ -50,7 +50,7 @@ returns-in-Text-clause-telling g c = λ notes columns rows row h.
     let graph = c.args.graph.now in
     let v = c.args.value.now in
     let none = none_of c.args.self.now.fault (sym c.is_some.ensures ∙ c.if-is_some.false) in
-    let seen = text_seen v c.in-Text.text c.in-Text.is ∙ ap text (sym c.as_str.ensures.value) in
+    let seen = text_seen v c.in-Text.text c.in-Text.is ∙ ap text (sym (c.as_str.ensures.value ∙ ap string_bytes c.as_ref.ensures)) in
     one_scalar graph notes columns rows row c.args.self.now (view v) h c.put_text.result _ _ _ none none refl (ap (test_output graph) seen) c.saturating_sub-self.ensures
     (text_put graph v c.as_str.result.now seen) c.put_text.ensures
 

@@ -1,5 +1,5 @@
 -- Rows of one group that come one after the other, counted at once.
-use Rattle.std.proofs.Common.{◌≡◌, ◌⊎◌, inl, inr, ℕ, zero, suc, ◌+◌, ◌*◌, ◌-◌, ◌<◌, ◌≤◌, ℤ, pos, true, List, [], ◌∷◌, ◌++◌, length, take, drop, get_or, Option, Some, None, Result, Ok, refl, sym, ap, subst, ◌∙◌, arith, length-append}
+use Rattle.std.proofs.Common.{◌≡◌, ◌⊎◌, inl, inr, ℕ, zero, suc, ◌+◌, ◌*◌, ◌-◌, ◌<◌, ◌≤◌, ℤ, pos, true, List, [], ◌∷◌, ◌++◌, length, take, drop, get_or, replicate, Option, Some, None, Result, Ok, refl, sym, ap, subst, ◌∙◌, arith, length-append}
 use Rattle.std.proofs.Math.Seq.{drop-cons}
 use Rattle.std.proofs.lemmas.Int.{ints}
 use Rattle.std.proofs.lemmas.List.{drop_at, length-map, take_at}
@@ -44,7 +44,7 @@ as_once : (n m : ℕ) → n ≡ m → m ≡ n * 1
 as_once n m e = omega (arith, e)
 
 module _ {X : Type 0} where
-  there : (xs : List X) (i : ℕ) (d : X) → i < length xs → slice_get xs i ≡ Some (get_or xs i d)
+  pub there : (xs : List X) (i : ℕ) (d : X) → i < length xs → slice_get xs i ≡ Some (get_or xs i d)
   there [] i d h = absurd (omega (arith, h))
   there (x ∷ xs) zero d h = refl
   there (x ∷ xs) (suc i) d h = there xs i d (omega (arith, h))
@@ -117,6 +117,13 @@ module _ (parameters : Entries) (graph : Graph) (names : List (List ℕ)) (es : 
       ∙ ap (λ k. into_kept at (a ∷ []) k (state c)) (sym found.is)
       ∙ taken at (a ∷ []) 1 refl key ks ks (takens c) (wide c) stay n found.number.here (takens c) ready found.number.within (takens (c +ℤ pos 1)) (taken_one at c)
 
+  pub often : (row : List Datum) → IsGroupOf (answers_at parameters graph names row) (keys_in es) ks n → (k : ℕ) (c : ℤ) → rows_kept (state c) (replicate k row) ≡ Ok (state (c +ℤ pos k))
+  often row group zero c = ap (λ z. Ok (state z)) (sym (none_more c))
+  often row group (suc k) c =
+      ap (λ r. r >>= λ gs. rows_kept gs (replicate k row)) (step row c group)
+      ∙ often row group k (c +ℤ pos 1)
+      ∙ ap (λ z. Ok (state z)) (one_more c k)
+
   module _ (columns : List ℕ) (reads : ReadEach names (keys_in es) columns) (before : List Datum) (latest : IsGroupOf (answers_at parameters graph names before) (keys_in es) ks n) (rows : List (List Datum)) where
     group_at : (row : List Datum) → AreAlike columns row before → IsGroupOf (answers_at parameters graph names row) (keys_in es) ks n
     group_at row alike = record { key = latest.key; is = same_key parameters graph names row before (keys_in es) columns reads alike ∙ latest.is; number = latest.number }
@@ -169,6 +176,17 @@ module _ (parameters : Entries) (graph : Graph) (names : List (List ℕ)) (es : 
   paired_after =
       sym (length-map new.taken.items taken_view) ∙ ap length counted.is ∙ as_long _ _ ∙ sym (ap length counted.was) ∙ wide_old ∙ ap (λ ks. length ks.keys * each) (sym same_keys)
 
+  as_wide : (o : One) (c : ℤ) → length (counted.front ++ plain_count c ∷ counted.back) ≡ length old.keys.keys * 1
+  as_wide o c = as_long c counted.before ∙ sym (ap length counted.was) ∙ wide_old ∙ ap (λ m. length old.keys.keys * m) o.once
+
+  pub row_counted : (row : List Datum) → IsGroupOf (answers_at parameters graph names row) (keys_in es) old.keys.keys n → kept_rows parameters graph names es (groups_view each old) (replicate more row) ≡ Ok (groups_view each new)
+  row_counted row group =
+      let o = only_one (aggregates_view names items.aggregates.items) refl counts in
+      let ks = old.keys.keys in
+      (λ i. kept_rows parameters graph names es (groups_of (keys_view ks) (parted (length ks) (o.once i) (counted.was i))) (replicate more row))
+      ∙ often parameters graph names es o.one o.is o.alone ks n counted.front counted.back counted.place (as_wide o) row group more counted.before
+      ∙ sym (λ i. let r : Result (List Kept) Fault = Ok (groups_of (keys_view (same_keys i).keys) (parted (length (same_keys i).keys) (o.once i) (counted.is i))) in r)
+
   pub rows_counted : (columns : List ℕ) (rows : List (List Datum)) (from end : ℕ) (before : List Datum) → ReadEach names (keys_of names items.keys.items) columns → IsGroupOf (answers_at parameters graph names before) (keys_in es) old.keys.keys n
       → AlikeUntil columns rows from end before → (row : List Datum) → slice_get rows from ≡ Some row → more ≡ end - from
       → kept_rows parameters graph names es (groups_view each old) (drop from rows) ≡ kept_rows parameters graph names es (groups_view each new) (drop end rows)
@@ -181,11 +199,14 @@ module _ (parameters : Entries) (graph : Graph) (names : List (List ℕ)) (es : 
       let ends = until.ends within in
       let whole : from + more ≡ end = omega (arith, is, begins) in
       let fits : from + more ≤ length rows = omega (arith, whole, ends) in
-      let wide : (c : ℤ) → length (counted.front ++ plain_count c ∷ counted.back) ≡ length ks * 1 = λ c. as_long c counted.before ∙ sym (ap length counted.was) ∙ wide_old ∙ ap (λ m. length ks * m) o.once in
       (λ i. kept_rows parameters graph names es (groups_of (keys_view ks) (parted (length ks) (o.once i) (counted.was i))) (drop from rows))
-      ∙ run parameters graph names es o.one o.is o.alone ks n counted.front counted.back counted.place wide columns (subst (λ xs. ReadEach names xs columns) ready.keys reads) before latest rows more from counted.before fits
+      ∙ run parameters graph names es o.one o.is o.alone ks n counted.front counted.back counted.place (as_wide o) columns (subst (λ xs. ReadEach names xs columns) ready.keys reads) before latest rows more from counted.before fits
       (λ i row low high got. until.alike i row low (subst (λ m. i < m) whole high) got)
       ∙ sym (λ i. kept_rows parameters graph names es (groups_of (keys_view (same_keys i).keys) (parted (length (same_keys i).keys) (o.once i) (counted.is i))) (drop (sym whole i) rows))
+
+pub paired_alike : (each : ℕ) (old new : Groups) → takens_view new.taken.items ≡ takens_view old.taken.items → new.keys ≡ old.keys → Paired each old → Paired each new
+paired_alike each old new taken keys paired =
+    sym (length-map new.taken.items taken_view) ∙ ap length taken ∙ length-map old.taken.items taken_view ∙ paired ∙ ap (λ ks. length ks.keys * each) (sym keys)
 
 -- ---- one place more
 

@@ -48,3 +48,4 @@ pub mod Unseen
 pub mod RowsTwice
 pub mod NoneStarred
 pub mod KeyColumns
+pub mod RepeatedRows

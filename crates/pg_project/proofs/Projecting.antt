@@ -153,6 +153,9 @@ module _ (s : Setting) (graph : Graph) (columns names : List (List ℕ)) (es : L
       → Gives result (item_rows s graph distinct (columns_of columns es) (rows_named names rows)) (seen_by (has_aggregate es))
   groups_give result h given = by_aggregate result true h given
 
+  pub groups_are : has_aggregate es ≡ true → item_rows s graph distinct (columns_of columns es) (rows_named names rows) ≡ grouped s graph (columns_of columns es) (rows_named names rows)
+  groups_are h = ap items_by (aggregates_are columns es same ∙ h)
+
   module _ (parameters : Entries) (given : s.parameters ≡ parameters) where
     abbrev wide : Result (List (List Value)) Fault
     wide = wide_rows_given parameters graph names es (not distinct) rows

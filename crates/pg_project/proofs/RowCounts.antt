@@ -1,5 +1,6 @@
 -- Rows that are counted alone.
 use Rattle.std.proofs.Common.{◌≡◌, ◌<◌, ◌≤◌, ℕ, suc, get_or, ◌+◌, pos, Bool, true, List, [], ◌∷◌, map, length, Result, Ok, Err, None, refl, sym, ap, ◌∙◌, arith}
+use Rattle.std.proofs.lemmas.List.{length-map}
 use Rattle.std.specs.Prelude.{◌+ℤ◌, IfErr, IfOk}
 use Rattle.pg_meaning.specs.Answer.{◌>>=◌, each_answer}
 use Rattle.pg_meaning.specs.Graph.{Graph}
@@ -8,9 +9,12 @@ use Rattle.pg_meaning.specs.Value.{Value, Entries, integer}
 use Rattle.pg_meaning.specs.declared.fault.Fault.{Fault}
 use Rattle.pg_meaning.specs.declared.fault.Fault.TheVariants.{OutOfMemory}
 use Rattle.pg_project.specs.Items.{Item, grouping, aggregate, aggregates_in, are_aggregates, before_aggregates, is_aggregate, item_of, keys_in, before_keys}
-use Rattle.pg_project.specs.Kept.{Kept, Answers, answers_at, first_kept, into_kept, kept_row, kept_rows, kept_values, merged, row_count, rows_given, without_group}
-use Rattle.pg_project.specs.KeptGroups.{aggregates_among}
+use Rattle.pg_project.specs.Kept.{Kept, Answers, answers_at, first_kept, into_kept, kept_row, kept_rows, kept_values, merged, row_count, rows_given, told_each, without_group}
+use Rattle.pg_project.specs.KeptGroups.{aggregates_among, groups_view}
+use Rattle.pg_project.specs.ReadyItems.{AreReady, aggregate_view}
 use Rattle.pg_project.specs.Summaries.{count}
+use Rattle.pg_project.specs.declared.groups.Groups.{Groups}
+use Rattle.pg_project.specs.declared.items.Items.{Items}
 use Rattle.pg_rows.specs.Tables.{table}
 use Rattle.pg_rows.specs.declared.table.Rows.{Rows}
 use Rattle.pg_value_core.specs.Gives.{Gives}
@@ -72,3 +76,11 @@ as_many (e ∷ es) = by (item_of e) (as_many es)
     by : (i : Item) → aggregates_among (are_aggregates es) ≡ length (aggregates_in es) → aggregates_among (is_aggregate i ∷ are_aggregates es) ≡ length (before_aggregates i (aggregates_in es))
     by (grouping x) h = h
     by (aggregate a) h = ap suc h
+
+pub groups_told : (names : List (List ℕ)) (es : List Expression) (items : Items) → AreReady names es items → (groups : Groups) (found : List (List Value))
+    → found ≡ map (λ g. merged items.are_aggregates.items g.key (told_each g.taken)) (groups_view (aggregates_among items.are_aggregates.items) groups)
+    → map (kept_values es) (groups_view (length items.aggregates.items) groups) ≡ found
+groups_told names es items ready groups found told = sym (told ∙ (λ i. map (λ (k : Kept). merged (ready.kinds i) k.key (told_each k.taken)) (groups_view (each i) groups)))
+  where
+    each : aggregates_among items.are_aggregates.items ≡ length items.aggregates.items
+    each = ap aggregates_among ready.kinds ∙ as_many es ∙ sym (ap length ready.aggregates) ∙ length-map items.aggregates.items (aggregate_view names)

@@ -15,3 +15,4 @@ pub mod Views
 pub mod PassThrough
 pub mod Alike
 pub mod AlikeRows
+pub mod RepeatedRows

@@ -98,6 +98,7 @@ impl Groups {
     }
 
     /// The same of a key of one value, which is only copied where its group isn't the one found last.
+    #[inline(always)]
     pub(crate) fn take_found<T: Tables>(
         &mut self,
         context: &RowContext<'_>,
@@ -182,6 +183,7 @@ fn key_of(alloc: Global, found: ValueRef<'_>) -> Result<Vec<Value>, AllocError>
 }
 
 /// Whether the group of this number has the one value as its key.
+#[inline(always)]
 fn is_number_of_one(keys: &IndexSet<Vec<Value>, RandomState>, number: usize, value: &Value) -> bool
     ensures has { result ≡ true → HasNumber keys.now.keys (view value.now ∷ []) number }
     ensures within { result ≡ true → number < length keys.now.keys }

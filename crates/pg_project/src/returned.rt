@@ -6,7 +6,7 @@ ghost use Rattle.pg_project.specs.Columns.{columns_view};
 ghost use Rattle.pg_project.specs.Returned.{ComeInTurn, CountsRows, OnlyCounts};
 ghost use Rattle.pg_syntax_tree.specs.View.{expression_view, projection_view};
 
-use crate::aggregates::is_any_aggregate;
+use crate::aggregates::{is_aggregate, is_any_aggregate};
 use crate::columns::make_columns;
 use crate::projection_columns::ProjectionColumns;
 use pg_rows::Columns;
@@ -43,6 +43,23 @@ pub fn only_counts(projection: &Projection) -> bool
         [item] => projection.star.is_none() && counts_rows(&item.value),
         _ => false,
     }
+}
+
+/// Whether RETURN groups rows only to count them: it has one aggregate, which is `count(*)`, and no `*`.
+pub fn counts_groups(projection: &Projection) -> bool {
+    if projection.star.is_some() {
+        return false;
+    }
+    let mut counts = false;
+    for item in &projection.items {
+        if is_aggregate(&item.value) {
+            if counts || !counts_rows(&item.value) {
+                return false;
+            }
+            counts = true;
+        }
+    }
+    counts
 }
 
 fn counts_rows(expression: &Expression) -> bool

@@ -2,11 +2,10 @@ use Rattle.std.proofs.Common.{◌≡◌, [], ◌∷◌, pos, rules, length, map,
 use Rattle.std.proofs.lemmas.List.{length-map}
 use Rattle.std.proofs.lemmas.Result.{IfOk-from_err}
 use Rattle.pg_project.proofs.ExitLemmas.{fault_given, memory_given}
-use Rattle.pg_project.proofs.RowCounts.{as_many, counted_gives, rows_counted}
+use Rattle.pg_project.proofs.RowCounts.{counted_gives, groups_told, rows_counted}
 use Rattle.pg_project.specs.Items.{aggregates_in, expressions_view, is_aggregate, item_of, keys_in}
-use Rattle.pg_project.specs.Kept.{Kept, kept_values, merged, row_count, told_each}
-use Rattle.pg_project.specs.KeptGroups.{aggregates_among, groups_view}
-use Rattle.pg_project.specs.ReadyItems.{aggregate_view, keys_of}
+use Rattle.pg_project.specs.Kept.{kept_values, row_count}
+use Rattle.pg_project.specs.ReadyItems.{keys_of}
 use Rattle.pg_meaning.specs.Answer.{◌>>=◌}
 use Rattle.pg_meaning.specs.Value.{integer}
 use Rattle.pg_rows.specs.Tables.{table}
@@ -41,16 +40,13 @@ returns-in_err-told_rows-clause-width g c = IfOk-from_err c.from_residual-in_err
 
 pub returns-clause-rows : goal.returns-clause-rows
 returns-clause-rows g c =
-    let values = kept_values (expressions_view c.args.items.now.items) in
+    let es = expressions_view c.args.items.now.items in
     let made = c.in_ok-ready.ensures in
-    let ready = c.in_ok-ready.ready in
-    let names = c.args.scope.now.names.now in
-    let each : aggregates_among ready.are_aggregates.items ≡ length ready.aggregates.items =
-    ap aggregates_among made.kinds ∙ as_many (expressions_view c.args.items.now.items) ∙ sym (ap length made.aggregates) ∙ length-map ready.aggregates.items (aggregate_view names) in
+    let found = c.in_ok-told_rows.field-0 in
     record {
       ok =
-          ap (λ a. a >>= λ gs. Ok (map values gs)) c.in_ok-groups.ensures.ok
-          ∙ ap Ok (sym (c.in_ok-told_rows.ensures.rows ∙ (λ i. map (λ (k : Kept). merged (made.kinds i) k.key (told_each k.taken)) (groups_view (each i) c.in_ok-groups.groups))));
+          ap (λ a. a >>= λ gs. Ok (map (kept_values es) gs)) c.in_ok-groups.ensures.ok
+          ∙ ap Ok (groups_told c.args.scope.now.names.now es c.in_ok-ready.ready (record { keys = made.keys; aggregates = made.aggregates; kinds = made.kinds }) c.in_ok-groups.groups (table found) c.in_ok-told_rows.ensures.rows);
       err = tt;
     }
 

@@ -3,6 +3,7 @@ use Rattle.std.proofs.Common.{◌≡◌, Bool, Option, option_map, Vec, Global, 
 use Rattle.std.proofs.lemmas.List.{length-map, map-append}
 use Rattle.std.specs.Prelude.{ℕ, ◌≢◌, fold, IfErr, IfOk}
 use Rattle.pg_match.specs.Clauses.{bare}
+use Rattle.pg_match.specs.Repeated.{with_counts}
 use Rattle.pg_match.specs.Unread.{MatchedAlike}
 use Rattle.pg_meaning.specs.Answer.{◌>>=◌}
 use Rattle.pg_meaning.specs.AnswerLaws.{same_ok}
@@ -133,6 +134,14 @@ module _ (p : Projection) (names : Names) (run : Result State Fault) (graph : Gr
     counted_err (Ok t) given = tt
     counted_err (Err e) given = λ other. same ∙ as_bare matched e (given.err other)
 
+-- rows that come as often as their counts tell
+abbrev pub seen_often : BindingTable × Vec ℕ Global → Named
+seen_often t = with_counts (seen t.0) t.1.items
+
+pub whole_often : (p : Projection) (names : Names) (run : Result State Fault) (graph : Graph) (steps : ℕ) (table : BindingTable) (t : BindingTable × Vec ℕ Global) → run ≡ Ok (state_of graph (seen table) steps) → (seen table).names ≡ names → seen_often t ≡ seen table
+    → Leaves run p names graph (seen_often t) steps
+whole_often p names run graph steps table t ran named same = subst (λ (n : Named). Leaves run p names graph n steps) (sym same) (whole_rows p names run graph (seen table) steps ran named)
+
 -- the rows of a MATCH that have what RETURN reads
 module _ (p : Projection) (names : Names) (run matched : Result State Fault) (same : run ≡ matched) (graph : Graph) (steps : ℕ) where
   rows_read : p.star ≡ None → (t : Named) → MatchedAlike p matched graph t steps → Leaves run p names graph t steps
@@ -143,11 +152,11 @@ module _ (p : Projection) (names : Names) (run matched : Result State Fault) (sa
     clause = λ s scope. sym (returned_alike s t.names graph p none h.rows (named_rows t) h.alike steps);
   }
 
-  pub read_ok : p.star ≡ None → (r : Result BindingTable Fault) → IfOk r (λ t. MatchedAlike p matched graph (seen t) steps) → IfOk r (λ t. Leaves run p names graph (seen t) steps)
-  read_ok none (Ok t) h = rows_read none (seen t) h
-  read_ok none (Err e) h = tt
+  pub read_ok : {R : Type 0} (rows_in : R → Named) → p.star ≡ None → (r : Result R Fault) → IfOk r (λ t. MatchedAlike p matched graph (rows_in t) steps) → IfOk r (λ t. Leaves run p names graph (rows_in t) steps)
+  read_ok rows_in none (Ok t) h = rows_read none (rows_in t) h
+  read_ok rows_in none (Err e) h = tt
 
-  pub read_err : (r : Result BindingTable Fault) → IfErr r (λ e. e ≢ OutOfMemory → matched ≡ Err e) → IfErr r (λ e. e ≢ OutOfMemory → run ≡ Err e)
+  pub read_err : {R : Type 0} (r : Result R Fault) → IfErr r (λ e. e ≢ OutOfMemory → matched ≡ Err e) → IfErr r (λ e. e ≢ OutOfMemory → run ≡ Err e)
   read_err (Ok t) h = tt
   read_err (Err e) h = λ other. same ∙ h other
 
@@ -183,7 +192,7 @@ module _ (cs : List Clause) (last : Clause) (plan : Plan) (anchors : List Anchor
     pub match_last : (left : State) → earlier_run ≡ Ok left → all_run ≡ step left
     match_last left ran = in_two ∙ ap (λ r. r >>= step) ran
 
-    pub fault_before : (r : Result BindingTable Fault) (e : Fault) → IsErrAnd r (λ f. f ≡ e) → (e ≢ OutOfMemory → earlier_run ≡ Err e) → IfErr r (λ f. f ≢ OutOfMemory → all_run ≡ Err f)
+    pub fault_before : {R : Type 0} (r : Result R Fault) (e : Fault) → IsErrAnd r (λ f. f ≡ e) → (e ≢ OutOfMemory → earlier_run ≡ Err e) → IfErr r (λ f. f ≢ OutOfMemory → all_run ≡ Err f)
     fault_before r e is h = (gives_fault r e all_run (λ t. begun) is (λ other. in_two ∙ ap (λ r. r >>= step) (h other))).err
 
 -- over the paths and the graph that are lent
@@ -194,12 +203,12 @@ matched_on r s lent paths seen_graph graph t before after on_paths on_graph give
     subst (λ (g : Graph). Gives r (match_clause s false (map path_view paths) None (state_of g t before) >>= λ last. Ok (bare last)) (λ made. state_of g (seen made) after)) on_graph
     (subst (λ ps. Gives r (match_clause s false (map path_view ps) None (state_of seen_graph t before) >>= λ last. Ok (bare last)) (λ made. state_of seen_graph (seen made) after)) on_paths given)
 
-module _ (p : Projection) (r : Result BindingTable Fault) (s : Setting) (b : Bool) (w : Option Expression) (lent paths : List PathCode) (seen_graph graph : Graph) (t : Named) (before after : ℕ) (on_paths : lent ≡ paths) (on_graph : seen_graph ≡ graph) where
-  pub read_on : IfOk r (λ made. MatchedAlike p (match_clause s b (map path_view lent) w (state_of seen_graph t before)) seen_graph (seen made) after)
-      → IfOk r (λ made. MatchedAlike p (match_clause s b (map path_view paths) w (state_of graph t before)) graph (seen made) after)
+module _ {R : Type 0} (rows_in : R → Named) (p : Projection) (r : Result R Fault) (s : Setting) (b : Bool) (w : Option Expression) (lent paths : List PathCode) (seen_graph graph : Graph) (t : Named) (before after : ℕ) (on_paths : lent ≡ paths) (on_graph : seen_graph ≡ graph) where
+  pub read_on : IfOk r (λ made. MatchedAlike p (match_clause s b (map path_view lent) w (state_of seen_graph t before)) seen_graph (rows_in made) after)
+      → IfOk r (λ made. MatchedAlike p (match_clause s b (map path_view paths) w (state_of graph t before)) graph (rows_in made) after)
   read_on given =
-      subst (λ (g : Graph). IfOk r (λ made. MatchedAlike p (match_clause s b (map path_view paths) w (state_of g t before)) g (seen made) after)) on_graph
-      (subst (λ ps. IfOk r (λ made. MatchedAlike p (match_clause s b (map path_view ps) w (state_of seen_graph t before)) seen_graph (seen made) after)) on_paths given)
+      subst (λ (g : Graph). IfOk r (λ made. MatchedAlike p (match_clause s b (map path_view paths) w (state_of g t before)) g (rows_in made) after)) on_graph
+      (subst (λ ps. IfOk r (λ made. MatchedAlike p (match_clause s b (map path_view ps) w (state_of seen_graph t before)) seen_graph (rows_in made) after)) on_paths given)
 
   pub not_read_on : IfErr r (λ e. e ≢ OutOfMemory → match_clause s b (map path_view lent) w (state_of seen_graph t before) ≡ Err e) → IfErr r (λ e. e ≢ OutOfMemory → match_clause s b (map path_view paths) w (state_of graph t before) ≡ Err e)
   not_read_on given =

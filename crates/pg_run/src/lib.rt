@@ -7,6 +7,7 @@ mod clauses;
 mod elements;
 mod instances;
 mod presence;
+mod repeated_rows;
 mod reply_writer;
 mod returned_rows;
 mod returning;

@@ -12,6 +12,7 @@ ghost use Rattle.pg_value_core.specs.Given.{parameters_view};
 ghost use Rattle.pg_value_core.specs.Gives.{Gives};
 
 use crate::clauses::run_clauses;
+use crate::repeated_rows::{counts_repeated, reply_of_repeated, rows_repeated};
 use crate::reply_writer::ReplyWriter;
 use crate::returned_rows::rows_returned;
 use crate::returning::return_reply;
@@ -60,6 +61,11 @@ pub fn answer_clauses<T: Tables>(
     match planned.clauses.split_last() {
         Some((Clause::Return(projection), before)) => {
             let anchors = &planned.anchors[..before.len()];
+            if counts_repeated(projection, before) {
+                let rows = rows_repeated(query, projection, before, anchors, live, meter)?;
+                let graph = live.graph();
+                return reply_of_repeated(query, projection, &graph, rows, meter, planned.notes);
+            }
             let table = rows_returned(query, projection, before, anchors, live, meter)?;
             return_reply(
                 query,

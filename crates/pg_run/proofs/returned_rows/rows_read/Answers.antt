@@ -56,8 +56,8 @@ returns-clause-ok g c =
     (parameters_view c.args.query.now.parameters.now) (quota_of c.args.meter.now.limit c.args.query.now.max_elements) (state_of c.args.live.now.graph (record { names = []; rows = [] ∷ [] }) c.args.meter.now.used) (state_of after.live.graph table after.meter.used) c.in_ok-table.ensures.gives.ok in
     let at = sym (ap (map anchor_view) c.deref-2.ensures.value) in
     read_ok p (fold scope_after [] (map clause_view c.args.clauses.now)) _ _ same after.live.graph c.match_read.new.meter.used
-    (none_there c.args.projection.now.star c.is_none.result c.is_none.ensures c.if-is_none.true) c.match_read.result
-    (read_on p c.match_read.result s m.is_optional (option_map expression_view m.condition) c.deref.result.now m.paths.items c.graph.result after.live.graph table after.meter.used c.match_read.new.meter.used c.deref.ensures.value c.graph.ensures.is
+    seen (none_there c.args.projection.now.star c.is_none.result c.is_none.ensures c.if-is_none.true) c.match_read.result
+    (read_on seen p c.match_read.result s m.is_optional (option_map expression_view m.condition) c.deref.result.now m.paths.items c.graph.result after.live.graph table after.meter.used c.match_read.new.meter.used c.deref.ensures.value c.graph.ensures.is
     (c.match_read.ensures.ok s (record { parameters_are = refl; steps_are = sym c.run_clauses.ensures.limit; scope_is = sym c.in_ok-table.ensures.names }) at))
 
 pub returns-clause-err : goal.returns-clause-err
@@ -76,7 +76,7 @@ returns-clause-err g c =
     (parameters_view c.args.query.now.parameters.now) (quota_of c.args.meter.now.limit c.args.query.now.max_elements) (state_of c.args.live.now.graph (record { names = []; rows = [] ∷ [] }) c.args.meter.now.used) (state_of after.live.graph table after.meter.used) c.in_ok-table.ensures.gives.ok in
     let at = sym (ap (map anchor_view) c.deref-2.ensures.value) in
     read_err p (fold scope_after [] (map clause_view c.args.clauses.now)) _ _ same after.live.graph c.match_read.new.meter.used c.match_read.result
-    (not_read_on p c.match_read.result s m.is_optional (option_map expression_view m.condition) c.deref.result.now m.paths.items c.graph.result after.live.graph table after.meter.used c.match_read.new.meter.used c.deref.ensures.value c.graph.ensures.is
+    (not_read_on seen p c.match_read.result s m.is_optional (option_map expression_view m.condition) c.deref.result.now m.paths.items c.graph.result after.live.graph table after.meter.used c.match_read.new.meter.used c.deref.ensures.value c.graph.ensures.is
     (c.match_read.ensures.err s (record { parameters_are = refl; steps_are = sym c.run_clauses.ensures.limit; scope_is = sym c.in_ok-table.ensures.names }) at))
 
 pub returns-2-clause-ok : goal.returns-2-clause-ok

@@ -38,7 +38,7 @@ from .sessions import Pool, Session, connect, pool, start
 from .transactions import Transaction
 from .values import Node, Parameter, Path, Relationship, Value, spelt, value_of
 
-__version__ = "1.23.0"
+__version__ = "1.24.0"
 
 __all__ = [
     "connect", "pool", "start", "Session", "Pool", "Transaction", "Stream", "Result", "Row", "Status", "Node", "Relationship", "Path",
